@@ -1,0 +1,34 @@
+# What the scripts under tests/ share: the built program, one expectation after another, and the count of those that fail.
+top=$(cd "$(dirname "${BASH_SOURCE[0]}")/../.." && pwd)
+program=$top/crates/gaz_main/out/gaz_main
+[ -x "$program" ] || { echo "the program isn't built: $program"; exit 1; }
+folder=$(mktemp -d)
+trap 'rm -rf "$folder"' EXIT
+passed=0
+failed=0
+
+# expect NAME STATUS TEXT WORDS..: runs the program with these words on the script's standard input and compares all it prints.
+expect() {
+    local name=$1 status=$2 text=$3 got
+    shift 3
+    got=$("$program" "$@" 2>&1; echo "status $?")
+    check "$name" "$got" "$text""status $status"
+}
+
+# check NAME GOT WANTED
+check() {
+    if [ "$2" = "$3" ]; then
+        passed=$((passed + 1))
+    else
+        failed=$((failed + 1))
+        printf '%s: got <%s>, wanted <%s>\n' "$1" "${2:0:300}" "${3:0:300}"
+    fi
+}
+
+# row ID NAME POPULATION: a geoname line of class P in country AA, without its LF.
+row() { printf '%s\t%s\t\t\t0\t0\tP\tPPL\tAA\t\t\t\t\t\t%s\t\t\t\t2024-02-01' "$1" "$2" "$3"; }
+
+finish() {
+    echo "$passed passed, $failed failed"
+    [ "$failed" = 0 ]
+}
