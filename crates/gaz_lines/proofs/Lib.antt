@@ -1,0 +1,6 @@
+pub mod Giving
+pub mod Keeping
+pub mod Lists
+pub mod Pieces
+pub mod Reading
+pub mod Rests

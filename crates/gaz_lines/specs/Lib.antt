@@ -1,0 +1,4 @@
+pub mod Cutter
+pub mod Lines
+pub mod Step
+pub mod Window
