@@ -123,10 +123,14 @@ pub part_copied : (bytes held buf : List ℕ) (at start n : ℕ) → held ≡ by
 part_copied bytes held buf at start n is begins copied =
     copied ∙ ap (take n) (take_rest held start ∙ ap (λ i. drop i held) begins ∙ drop_min at held ∙ ap (drop at) is)
 
--- nothing is copied where there is no room or no byte
-pub none_copied : (bytes held : List ℕ) (at start n room : ℕ) → held ≡ bytes → start ≡ min at (length held) → n ≡ min room (length (take (length held - start) (drop start held))) → (n ≡ 0) ↔ ((room ≡ 0) ⊎ (length bytes ≤ at))
-none_copied bytes held at start n room is begins count =
+-- as much is copied as there is room for and bytes
+pub count_copied : (bytes held : List ℕ) (at start n room : ℕ) → held ≡ bytes → start ≡ min at (length held) → n ≡ min room (length (take (length held - start) (drop start held))) → n ≡ min room (length bytes - at)
+count_copied bytes held at start n room is begins count =
     let size = length-take (length held - start) (drop start held) in
     let rest = length-drop start held in
     let same : length held ≡ length bytes = ap length is in
-    (λ none. grind (arith, size, rest, same, begins, count, none), λ none. grind (arith, size, rest, same, begins, count, none))
+    grind (arith, size, rest, same, begins, count)
+
+-- nothing is copied where there is no room or no byte
+pub none_copied : (bytes : List ℕ) (at n room : ℕ) → n ≡ min room (length bytes - at) → (n ≡ 0) ↔ ((room ≡ 0) ⊎ (length bytes ≤ at))
+none_copied bytes at n room count = (λ none. grind (arith, count, none), λ none. grind (arith, count, none))

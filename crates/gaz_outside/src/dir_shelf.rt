@@ -1,7 +1,7 @@
 //! The files of the current folder. It tells no bytes.
-ghost use Rattle.std.specs.Prelude.{◌≡◌, ◌≢◌, ℕ, ◌≤◌, ◌<◌, ◌^◌, false, Some, None, length, IfErr, IfOk, IfSome, IsNone, option_map};
+ghost use Rattle.std.specs.Prelude.{◌≡◌, ◌≢◌, ℕ, ◌≤◌, ◌<◌, ◌↔◌, ◌^◌, false, Some, None, length, IfErr, IfOk, IfSome, IsSome, IsErr, IsFalse, option_map};
 ghost use Rattle.std.specs.IoError.{error_kind};
-ghost use Rattle.gaz_outside.specs.Outside.{RisesOnce};
+ghost use Rattle.gaz_outside.specs.Outside.{RisesOnce, HasCause, SameFiles, Opens, Blames, files_of};
 
 use crate::adapters::TRIES;
 use crate::open_files::{NamedFile, OpenFiles};
@@ -13,6 +13,7 @@ use std::io::ErrorKind;
 use std::os::unix::fs::FileExt;
 
 /// The files of the current folder, of which at most eight are open at once. An open number is a place among these.
+/// A name is a path from there: one with a slash is followed, an empty one names no file, one with a NUL is a failure.
 #[derive(Drop)]
 pub struct DirShelf<'a, R: Files> {
     rt: &'a R,
@@ -22,8 +23,17 @@ pub struct DirShelf<'a, R: Files> {
     ghost fits: { faults < 2 ^ 64 },
 }
 
-impl<'a, R: Files> DirShelf<'a, R> {
-    pub fn new(rt: &'a R) -> Self {
+impl<'a, R: Files> DirShelf<'a, R>
+where
+    R::File: FileExt,
+{
+    /// With no open file.
+    pub fn new(rt: &'a R) -> Self
+        ensures untold { IsFalse (⟦<DirShelf<'a, R> as Shelf>⟧.view result).is_told }
+        ensures closed { (n : ℕ) → (⟦<DirShelf<'a, R> as Shelf>⟧.view result).opened n ≡ None }
+        ensures no_fault { (⟦<DirShelf<'a, R> as Shelf>⟧.view result).last_fault ≡ None }
+        ensures faults { (⟦<DirShelf<'a, R> as Shelf>⟧.view result).faults ≡ 0 }
+    {
         DirShelf {
             rt,
             files: OpenFiles::new(),
@@ -95,7 +105,18 @@ where
 
     ghost open_told = { λ s n told. absurd (not_told told) };
 
-    fn open(&mut self, name: &str) -> Result<Option<u64>, Failed> {
+    /// With eight open files it fails.
+    fn open(&mut self, name: &str) -> Result<Option<u64>, Failed>
+        requires { length name.now ≤ 48 }
+        ensures found { IfOk result (λ number. IfSome (files_of (⟦<DirShelf<'a, R> as Shelf>⟧.view self.old)) (λ files. IsSome number ↔ IsSome (files name.now))) }
+        ensures opens { Opens name.now (⟦<DirShelf<'a, R> as Shelf>⟧.view self.old) (⟦<DirShelf<'a, R> as Shelf>⟧.view self.new) result }
+        ensures same { SameFiles (⟦<DirShelf<'a, R> as Shelf>⟧.view self.old) (⟦<DirShelf<'a, R> as Shelf>⟧.view self.new) }
+        ensures blames { Blames (Some name.now) (⟦<DirShelf<'a, R> as Shelf>⟧.view self.old) (⟦<DirShelf<'a, R> as Shelf>⟧.view self.new) result }
+        ensures cause { HasCause (⟦<DirShelf<'a, R> as Shelf>⟧.view self.old).faults (⟦<DirShelf<'a, R> as Shelf>⟧.view self.new).faults result }
+        ensures place { IfOk result (λ number. IfSome number (λ place. place < 8)) }
+        ensures fresh { IfOk result (λ number. IfSome number (λ place. (⟦<DirShelf<'a, R> as Shelf>⟧.view self.old).opened place ≡ None)) }
+        ensures full { ((place : ℕ) → place < 8 → IsSome ((⟦<DirShelf<'a, R> as Shelf>⟧.view self.old).opened place)) → IsErr result }
+    {
         let Some(place) = self.files.free_place() else {
             return Err(self.fault(short_name(name)));
         };

@@ -25,7 +25,7 @@ pub struct MemShelf {
 }
 
 impl MemShelf {
-    ghost use Rattle.gaz_outside.specs.Memory.{failing_reads, reads_made};
+    ghost use Rattle.gaz_outside.specs.Memory.{failing_reads, listed_files, reads_made};
 
     /// A shelf of these files, with no open number. Its calls of `open` and `read` with these numbers fail, where both are
     /// counted together, from 1. Only this takes memory.
@@ -35,6 +35,7 @@ impl MemShelf {
         ensures closed { IfOk result (λ shelf. (n : ℕ) → (⟦<MemShelf as Shelf>⟧.view shelf).opened n ≡ None) }
         ensures no_fault { IfOk result (λ shelf. (⟦<MemShelf as Shelf>⟧.view shelf).last_fault ≡ None) }
         ensures faults { IfOk result (λ shelf. (⟦<MemShelf as Shelf>⟧.view shelf).faults ≡ 0) }
+        ensures kept { IfOk result (λ shelf. listed_files shelf ≡ listed files.items) }
         ensures fails { IfOk result (λ shelf. failing_reads shelf ≡ fails.items) }
         ensures calls { IfOk result (λ shelf. reads_made shelf ≡ 0) }
     {
@@ -65,6 +66,8 @@ fn place_of(files: &[(String, Vec<u8>)], name: &str) -> Option<usize>
 
 #[tactic(auto, unfolding(crate::specs::Outside::files_of, crate::specs::Outside::bytes_of))]
 impl Shelf for MemShelf {
+    ghost use Rattle.gaz_outside.specs.Memory.{failing_reads, listed_files, reads_made};
+
     ghost view = { λ s. record {
       is_told = true;
       files = file_named (listed s.files.items);
@@ -77,7 +80,21 @@ impl Shelf for MemShelf {
 
     ghost open_told = { λ s n told. open_is_named (listed s.files.items) s.is_open.items n };
 
-    fn open(&mut self, name: &str) -> Result<Option<u64>, Failed> {
+    /// The number is the place of the last file with the name. It fails exactly at the calls with the numbers that the
+    /// shelf was given.
+    fn open(&mut self, name: &str) -> Result<Option<u64>, Failed>
+        requires { length name.now ≤ 48 }
+        ensures found { IfOk result (λ number. IfSome (files_of (⟦<MemShelf as Shelf>⟧.view self.old)) (λ files. IsSome number ↔ IsSome (files name.now))) }
+        ensures opens { Opens name.now (⟦<MemShelf as Shelf>⟧.view self.old) (⟦<MemShelf as Shelf>⟧.view self.new) result }
+        ensures same { SameFiles (⟦<MemShelf as Shelf>⟧.view self.old) (⟦<MemShelf as Shelf>⟧.view self.new) }
+        ensures blames { Blames (Some name.now) (⟦<MemShelf as Shelf>⟧.view self.old) (⟦<MemShelf as Shelf>⟧.view self.new) result }
+        ensures cause { HasCause (⟦<MemShelf as Shelf>⟧.view self.old).faults (⟦<MemShelf as Shelf>⟧.view self.new).faults result }
+        ensures place { IfOk result (λ number. IfSome number (IsLastNamed (listed_files self.old) name.now)) }
+        ensures kept { listed_files self.new ≡ listed_files self.old }
+        ensures fails { IsErr result ↔ Contains (failing_reads self.old) (reads_made self.new) }
+        ensures calls { reads_made self.new ≡ min (reads_made self.old + 1) (2 ^ 64 - 1) }
+        ensures plan { failing_reads self.new ≡ failing_reads self.old }
+    {
         if let Err(failed) = admit(&self.fails, &mut self.calls, &mut self.faults) {
             self.last_fault = Some(short_name(name));
             return Err(failed);
@@ -91,7 +108,23 @@ impl Shelf for MemShelf {
         }
     }
 
-    fn read(&mut self, file: u64, at: u64, buf: &mut [u8]) -> Result<usize, Failed> {
+    /// It gives as much as there is room for and bytes, and fails exactly at the calls with the numbers that the shelf was
+    /// given.
+    fn read(&mut self, file: u64, at: u64, buf: &mut [u8]) -> Result<usize, Failed>
+        requires { IsSome ((⟦<MemShelf as Shelf>⟧.view self.old).opened file) }
+        ensures count { IfOk result (λ n. n ≤ length buf.old) }
+        ensures bytes { IfOk result (λ n. IfSome (bytes_of (⟦<MemShelf as Shelf>⟧.view self.old) file) (λ bytes. take n buf.new ≡ take n (drop at bytes))) }
+        ensures end { IfOk result (λ n. IfSome (bytes_of (⟦<MemShelf as Shelf>⟧.view self.old) file) (λ bytes. (n ≡ 0) ↔ ((length buf.old ≡ 0) ⊎ (length bytes ≤ at)))) }
+        ensures numbers { SameNumbers (⟦<MemShelf as Shelf>⟧.view self.old) (⟦<MemShelf as Shelf>⟧.view self.new) }
+        ensures same { SameFiles (⟦<MemShelf as Shelf>⟧.view self.old) (⟦<MemShelf as Shelf>⟧.view self.new) }
+        ensures blames { Blames ((⟦<MemShelf as Shelf>⟧.view self.old).opened file) (⟦<MemShelf as Shelf>⟧.view self.old) (⟦<MemShelf as Shelf>⟧.view self.new) result }
+        ensures cause { HasCause (⟦<MemShelf as Shelf>⟧.view self.old).faults (⟦<MemShelf as Shelf>⟧.view self.new).faults result }
+        ensures whole { IfOk result (λ n. IfSome (bytes_of (⟦<MemShelf as Shelf>⟧.view self.old) file) (λ bytes. n ≡ min (length buf.old) (length bytes - at))) }
+        ensures kept { listed_files self.new ≡ listed_files self.old }
+        ensures fails { IsErr result ↔ Contains (failing_reads self.old) (reads_made self.new) }
+        ensures calls { reads_made self.new ≡ min (reads_made self.old + 1) (2 ^ 64 - 1) }
+        ensures plan { failing_reads self.new ≡ failing_reads self.old }
+    {
         let (name, bytes) = &self.files[file as usize];
         if let Err(failed) = admit(&self.fails, &mut self.calls, &mut self.faults) {
             self.last_fault = Some(short_name(name.as_str()));
@@ -101,7 +134,16 @@ impl Shelf for MemShelf {
         Ok(copy_front(&bytes[start..], buf))
     }
 
-    fn close_all(&mut self) {
+    /// It isn't counted as a call.
+    fn close_all(&mut self)
+        ensures closed { (n : ℕ) → (⟦<MemShelf as Shelf>⟧.view self.new).opened n ≡ None }
+        ensures same { SameFiles (⟦<MemShelf as Shelf>⟧.view self.old) (⟦<MemShelf as Shelf>⟧.view self.new) }
+        ensures blamed { (⟦<MemShelf as Shelf>⟧.view self.new).last_fault ≡ (⟦<MemShelf as Shelf>⟧.view self.old).last_fault }
+        ensures faults { (⟦<MemShelf as Shelf>⟧.view self.new).faults ≡ (⟦<MemShelf as Shelf>⟧.view self.old).faults }
+        ensures kept { listed_files self.new ≡ listed_files self.old }
+        ensures calls { reads_made self.new ≡ reads_made self.old }
+        ensures plan { failing_reads self.new ≡ failing_reads self.old }
+    {
         self.is_open.fill(false);
     }
 }

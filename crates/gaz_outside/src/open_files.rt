@@ -1,5 +1,5 @@
 //! Eight places for open files.
-ghost use Rattle.std.specs.Prelude.{◌≡◌, ◌≢◌, ℕ, ◌≤◌, ◌<◌, Some, None, IfSome, IsSome, length};
+ghost use Rattle.std.specs.Prelude.{◌≡◌, ◌≢◌, ℕ, ◌≤◌, ◌<◌, Some, None, IfSome, IsSome, IsNone, length};
 
 use crate::short_name::ShortName;
 
@@ -31,6 +31,7 @@ impl<F> OpenFiles<F> {
     pub(crate) fn free_place(&self) -> Option<usize>
         ensures within { IfSome result (λ place. place < 8) }
         ensures free { IfSome result (λ place. name_in self.now place ≡ None) }
+        ensures full { IsNone result → (place : ℕ) → place < 8 → IsSome (name_in self.now place) }
     {
         for place in 0..8 {
             if self.places[place].is_none() {
