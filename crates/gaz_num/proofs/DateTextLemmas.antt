@@ -12,7 +12,7 @@ use Rattle.gaz_num.specs.Dates.{day_number, padded_number, civil_text, date_text
 use Rattle.gaz_num.proofs.CalendarLemmas.{and_left, and_right, and_both, date_of-day_number}
 
 -- the digits: a number is written with as many as it was read from
-abbrev AreAscii : List ℕ → Type 0
+abbrev pub AreAscii : List ℕ → Type 0
 AreAscii ds = all_ascii_digits ds ≡ true
 
 in_range : (c : ℕ) → is_ascii_digit c ≡ true → (48 ≤ c) × (c ≤ 57)
@@ -47,7 +47,7 @@ zero_first rest k v is text =
 small : (ds : List ℕ) → AreAscii ds → length ds ≤ 10 → digits_value 10 ds < 2 ^ 64
 small ds h le = let short = digits_value_short model ds 10 h le in omega (arith, short)
 
-written : (ds : List ℕ) → AreAscii ds → 0 < length ds → length ds ≤ 10 → padded_number (length ds) (digits_value 10 ds) ≡ ds
+pub written : (ds : List ℕ) → AreAscii ds → 0 < length ds → length ds ≤ 10 → padded_number (length ds) (digits_value 10 ds) ≡ ds
 written [] h some le = absurd (omega (arith, some))
 written (x ∷ []) h some le =
     let is = decimal-digits_value model (x ∷ []) h some (λ z. refl) (small (x ∷ []) h le) in
@@ -62,7 +62,7 @@ written (x ∷ y ∷ ds) h some le = by (x == 48) refl (written (y ∷ ds) (and_
         let d = decimal-digits_value model (x ∷ y ∷ ds) h some lead (small (x ∷ y ∷ ds) h le) in
         padded_short (digits_value 10 (x ∷ y ∷ ds)) [] (length (x ∷ y ∷ ds)) (sym (ap length d)) ∙ d
 
-three_parts : (a b c x y z : List ℕ) → a ≡ x → b ≡ y → c ≡ z → a ++ 45 ∷ [] ++ b ++ 45 ∷ [] ++ c ≡ x ++ 45 ∷ [] ++ y ++ 45 ∷ [] ++ z
+pub three_parts : (a b c x y z : List ℕ) → a ≡ x → b ≡ y → c ≡ z → a ++ 45 ∷ [] ++ b ++ 45 ∷ [] ++ c ≡ x ++ 45 ∷ [] ++ y ++ 45 ∷ [] ++ z
 three_parts a b c x y z is_a is_b is_c =
     ap (λ (l : List ℕ). l ++ 45 ∷ [] ++ b ++ 45 ∷ [] ++ c) is_a ∙ ap (λ (l : List ℕ). x ++ 45 ∷ [] ++ l ++ 45 ∷ [] ++ c) is_b ∙ ap (λ (l : List ℕ). x ++ 45 ∷ [] ++ y ++ 45 ∷ [] ++ l) is_c
 

@@ -1,10 +1,9 @@
 -- The two sides of a decimal point.
-use Rattle.std.proofs.Common.{◌≡◌, ℕ, zero, suc, ◌+◌, ◌-◌, ◌*◌, ◌^◌, ◌<◌, ◌≤◌, Bool, true, false, cond, ◌&&◌, ◌||◌, List, [], ◌∷◌, length, take, drop, refl, ap, arith, ◌∙◌, sym, Option, Some, None, inl, inr, add-zero}
+use Rattle.std.proofs.Common.{◌≡◌, ℕ, suc, ◌+◌, ◌-◌, ◌*◌, ◌^◌, ◌<◌, ◌≤◌, Bool, true, false, cond, ◌&&◌, ◌||◌, List, [], ◌∷◌, length, take, drop, refl, ap, arith, ◌∙◌, sym, Option, Some, None, add-zero}
 use Rattle.std.specs.Prelude.{not, position, nat_lt, if◌then◌else◌}
 use Rattle.std.specs.List.{position_or_len, list_any}
 use Rattle.std.specs.Str.Parse.{digits_value}
 use Rattle.std.proofs.lemmas.Grind.{common_steps}
-use Rattle.std.proofs.lemmas.Bool.{cases_lt}
 use Rattle.gaz_num.specs.Numbers.{some_if, is_digits, is_point, is_decimal, decimal_value}
 
 any_at : (t any : Bool) (k n : ℕ) → (k < n → any ≡ true) → cond (not t) (1 + k) 0 < suc n → (t || any) ≡ true

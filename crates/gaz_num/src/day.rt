@@ -1,7 +1,7 @@
 //! Days of the calendar and their texts.
-ghost use Rattle.std.specs.Prelude.{◌≡◌, ◌≤◌, ◌<◌, ◌^◌, ℕ, suc, length, IfSome, nat_lt, nat_le};
+ghost use Rattle.std.specs.Prelude.{◌≡◌, ◌≤◌, ◌<◌, ◌^◌, ◌+◌, ℕ, suc, length, Some, IfSome, nat_lt, nat_le};
 ghost use Rattle.gaz_num.specs.Numbers.{some_if};
-ghost use Rattle.gaz_num.specs.Dates.{last_day, is_date, day_number, day_of_parts, date_text, day_in};
+ghost use Rattle.gaz_num.specs.Dates.{last_day, is_date, day_number, day_of_parts, civil_text, date_text, day_in};
 
 use crate::read::read_digits;
 use jiff_core::civil::Date;
@@ -103,4 +103,42 @@ pub fn read_date(text: &[u8]) -> Option<Day>
         return None;
     }
     read_parts(&text[..4], &text[5..7], &text[8..])
+}
+
+/// The byte of a digit.
+fn digit(n: u16) -> u8
+    requires { n < 10 }
+    ensures { result ≡ 48 + n }
+{
+    b'0' + n as u8
+}
+
+/// The ten bytes `yyyy-MM-dd` of a date.
+fn write_civil(year: u16, month: u16, day: u16) -> [u8; 10]
+    requires year { year < 10 ^ 4 }
+    requires month { month < 10 ^ 2 }
+    requires day { day < 10 ^ 2 }
+    ensures { result ≡ civil_text (record { year = year; month = month; day = day }) }
+{
+    [
+        digit(year / 1000),
+        digit(year / 100 % 10),
+        digit(year / 10 % 10),
+        digit(year % 10),
+        b'-',
+        digit(month / 10),
+        digit(month % 10),
+        b'-',
+        digit(day / 10),
+        digit(day % 10),
+    ]
+}
+
+/// The ten bytes `yyyy-MM-dd` of a day.
+pub fn write_date(day: Day) -> [u8; 10]
+    ensures text { result ≡ date_text day }
+    ensures day { day_in result ≡ Some day }
+{
+    let date = Date::from_days_since_min(day.number + BEFORE);
+    write_civil(date.year.unsigned_abs(), date.month as u16, date.day as u16)
 }

@@ -1,5 +1,5 @@
 -- A walk over the columns of a line.
-use Rattle.std.proofs.Common.{◌≡◌, ℕ, zero, suc, ◌+◌, ◌-◌, ◌<◌, ◌≤◌, List, [], ◌∷◌, ◌++◌, map, length, take, set, refl, ap, arith, ◌∙◌, sym, append_assoc, length-append, Bor, subst, get_or, unwrap_or}
+use Rattle.std.proofs.Common.{◌≡◌, ℕ, zero, suc, ◌+◌, ◌<◌, ◌≤◌, List, [], ◌∷◌, ◌++◌, map, length, take, set, refl, ap, arith, ◌∙◌, sym, append_assoc, length-append, Bor, subst, get_or, unwrap_or}
 use Rattle.std.specs.Prelude.{slice_get}
 use Rattle.std.proofs.lemmas.List.{take_more_set, map-append, length-map, length-take-le}
 use Rattle.std.proofs.Math.Seq.{take-length}

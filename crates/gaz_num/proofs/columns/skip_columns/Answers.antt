@@ -1,4 +1,4 @@
-use Rattle.std.proofs.Common.{◌≡◌, ◌∙◌}
+use Rattle.std.proofs.Common.{◌∙◌}
 use Rattle.gaz_num.specs.Pieces.{fields}
 use Rattle.gaz_num.proofs.PiecesLemmas.{next_fields, no_more_fields}
 use Rattle.gaz_num.proofs.columns.skip_columns.Goals as goal

@@ -1,8 +1,8 @@
-use Rattle.std.proofs.Common.{ℕ, Bool, Some, ap, sym, ◌∙◌, arith, w8, w16}
+use Rattle.std.proofs.Common.{Bool, Some, ap, sym, ◌∙◌, arith, w8, w16}
 use Rattle.std.proofs.lemmas.Int.{to_z_pos}
 use Rattle.gaz_num.specs.Numbers.{some_if}
 use Rattle.gaz_num.specs.Dates.{Civil, day_number}
-use Rattle.gaz_num.proofs.CalendarLemmas.{IsDayOf, day_of_date}
+use Rattle.gaz_num.proofs.CalendarLemmas.{day_of_date}
 use Rattle.gaz_num.proofs.day.day_on.Goals as goal
 
 pub overflow_sub-result : goal.overflow_sub-result

@@ -1,6 +1,5 @@
-use Rattle.std.proofs.Common.{ℕ, ◌≡◌, ◌≤◌, length, arith, refl, subst, true, false}
-use Rattle.gaz_num.specs.Pieces.{fields}
-use Rattle.gaz_row.proofs.WalkLemmas.{Walked, step, too_few, too_many, just, whole, at_end}
+use Rattle.std.proofs.Common.{arith, refl}
+use Rattle.gaz_row.proofs.WalkLemmas.{step, too_few, too_many, just, whole, at_end}
 use Rattle.gaz_row.proofs.columns.Columns.of.Goals as goal
 
 pub loop-place-init : goal.loop-place-init
