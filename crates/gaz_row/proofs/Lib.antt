@@ -1,2 +1,3 @@
-pub mod WalkLemmas
+pub mod AcceptedLemmas
 pub mod TextLemmas
+pub mod WalkLemmas

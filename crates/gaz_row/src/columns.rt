@@ -41,6 +41,13 @@ impl<'a> Columns<'a> {
         }
     }
 
+    /// The whole line.
+    pub fn line(&self) -> &'a [u8]
+        ensures { result.now ≡ self.now.line.now }
+    {
+        self.line
+    }
+
     /// The column at a place from 0.
     pub fn text(&self, place: usize) -> &'a [u8]
         requires { place < 19 }

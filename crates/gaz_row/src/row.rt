@@ -1,0 +1,125 @@
+//! A row whose columns can be asked for.
+ghost use Rattle.std.specs.Prelude.{◌≡◌, ◌≤◌, ◌<◌, ◌+◌, List, ℕ, Some, None};
+ghost use Rattle.gaz_num.specs.Numbers.{id_in, degrees_in};
+ghost use Rattle.gaz_num.specs.Pieces.{column};
+ghost use Rattle.gaz_num.specs.Check.{reason_against};
+ghost use Rattle.gaz_num.specs.declared.words.Kind.TheVariants.{Row as RowKind};
+ghost use Rattle.gaz_row.specs.Row.{population_of};
+
+use crate::check::{LATITUDES, LONGITUDES};
+use crate::columns::Columns;
+use gaz_num::{read_degrees, read_i64, read_id};
+use std::marker::Model;
+
+/// A line that the check of a row accepts, seen as the line.
+#[derive(Drop)]
+pub struct Row<'a> {
+    columns: Columns<'a>,
+}
+
+impl<'a> Model for Row<'a> {
+    ghost Value = { List ℕ };
+
+    ghost view = { λ row. row.columns.line.now };
+
+    ghost invariant = { λ row. reason_against RowKind row.columns.line.now ≡ None };
+}
+
+impl<'a> Row<'a> {
+    /// The row of a line that `check_row` accepts.
+    pub fn of(line: &'a [u8]) -> Row<'a>
+        requires { reason_against RowKind line.now ≡ None }
+        ensures { result ≡ line.now }
+    {
+        Row {
+            columns: Columns::of(line).unwrap(),
+        }
+    }
+
+    /// The whole line.
+    pub fn line(&self) -> &'a [u8]
+        ensures { result.now ≡ self.now }
+    {
+        self.columns.line()
+    }
+
+    /// The geonameid, column 1.
+    pub fn id(&self) -> u32
+        ensures { id_in (column 1 self.now) ≡ Some result }
+    {
+        read_id(self.columns.text(0)).unwrap()
+    }
+
+    /// The text of the column at a place from 0.
+    fn text(&self, place: usize) -> &'a str
+        requires { place < 19 }
+        ensures { result.now ≡ column (place + 1) self.now }
+    {
+        str::from_utf8(self.columns.text(place)).unwrap()
+    }
+
+    /// The name, column 2.
+    pub fn name(&self) -> &'a str
+        ensures { result.now ≡ column 2 self.now }
+    {
+        self.text(1)
+    }
+
+    /// The name in ASCII, column 3.
+    pub fn ascii(&self) -> &'a str
+        ensures { result.now ≡ column 3 self.now }
+    {
+        self.text(2)
+    }
+
+    /// The latitude, column 5, in units of 10^-12 degree.
+    pub fn latitude(&self) -> i64
+        ensures { degrees_in 90 (column 5 self.now) ≡ Some result }
+    {
+        read_degrees(self.columns.text(4), LATITUDES).unwrap()
+    }
+
+    /// The longitude, column 6, in units of 10^-12 degree.
+    pub fn longitude(&self) -> i64
+        ensures { degrees_in 180 (column 6 self.now) ≡ Some result }
+    {
+        read_degrees(self.columns.text(5), LONGITUDES).unwrap()
+    }
+
+    /// The feature class, column 7.
+    pub fn class(&self) -> &'a str
+        ensures { result.now ≡ column 7 self.now }
+    {
+        self.text(6)
+    }
+
+    /// The feature code, column 8.
+    pub fn code(&self) -> &'a str
+        ensures { result.now ≡ column 8 self.now }
+    {
+        self.text(7)
+    }
+
+    /// The country code, column 9.
+    pub fn country(&self) -> &'a str
+        ensures { result.now ≡ column 9 self.now }
+    {
+        self.text(8)
+    }
+
+    /// The code of the admin division of a level from 1 to 4, columns 11 to 14.
+    pub fn admin(&self, level: u8) -> &'a str
+        requires low { 1 ≤ level }
+        requires high { level ≤ 4 }
+        ensures { result.now ≡ column (10 + level) self.now }
+    {
+        self.text(9 + level as usize)
+    }
+
+    /// The population, column 15, and 0 where that is empty.
+    pub fn population(&self) -> i64
+        ensures { result ≡ population_of self.now }
+    {
+        read_i64(self.columns.text(14)).unwrap_or(0)
+    }
+}
