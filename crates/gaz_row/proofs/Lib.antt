@@ -1,3 +1,2 @@
 pub mod AcceptedLemmas
-pub mod TextLemmas
 pub mod WalkLemmas
