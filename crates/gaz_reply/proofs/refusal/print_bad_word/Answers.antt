@@ -1,0 +1,15 @@
+use Rattle.std.proofs.Common.{◌++◌, subst}
+use Rattle.std.specs.Prelude.{codes}
+use Rattle.gaz_outside.specs.Outside.{Prints, PrintsFront}
+use Rattle.gaz_reply.proofs.Pieces.{both, front}
+use Rattle.gaz_reply.proofs.refusal.print_bad_word.Goals as goal
+
+pub returns-in-Ok-clause-printed : goal.returns-in-Ok-clause-printed
+returns-in-Ok-clause-printed g c =
+    subst (λ word. Prints (codes "refused request " ++ word ++ codes "\n") (g.T.Station.view c.args.station.now) (g.T.Station.view c.print.new.self) c.print.result) c.as_bytes.ensures.value
+    (both (codes "refused request " ++ c.as_bytes.result.now) (codes "\n") _ _ _ c.print.result c.in-Ok.ensures.printed c.print.ensures.printed)
+
+pub returns-in-Err-clause-printed : goal.returns-in-Err-clause-printed
+returns-in-Err-clause-printed g c =
+    subst (λ word. PrintsFront (codes "refused request " ++ word ++ codes "\n") (g.T.Station.view c.args.station.now) (g.T.Station.view c.print_two.new.station)) c.as_bytes.ensures.value
+    (front (codes "refused request " ++ c.as_bytes.result.now) (codes "\n") _ _ c.in-Err.ensures.printed)

@@ -1,0 +1,30 @@
+use Rattle.std.proofs.Common.{ap, refl, sym, subst, ◌++◌}
+use Rattle.std.specs.Prelude.{codes, decimal}
+use Rattle.gaz_num.specs.Refusal.{not_loaded, sequence, absent, shelf, too_long, malformed, full, memory}
+use Rattle.gaz_reply.specs.Reply.{refusal_of}
+use Rattle.gaz_reply.proofs.Texts.{sequence_text, absent_text, shelf_text, too_long_text, malformed_text, full_text, tells}
+use Rattle.gaz_reply.proofs.refusal.write_refusal.Goals as goal
+
+pub returns-in-NotLoaded-clause-printed : goal.returns-in-NotLoaded-clause-printed
+returns-in-NotLoaded-clause-printed g c = tells _ not_loaded c.args.refusal.now _ _ c.print.result refl (ap refusal_of (sym c.in-NotLoaded.is)) c.print.ensures.printed
+
+pub returns-in-Sequence-clause-printed : goal.returns-in-Sequence-clause-printed
+returns-in-Sequence-clause-printed g c = tells _ (sequence c.in-Sequence.have) c.args.refusal.now _ _ c.print_dated.result (sequence_text c.in-Sequence.have) (ap refusal_of (sym c.in-Sequence.is)) c.print_dated.ensures.printed
+
+pub returns-in-Absent-clause-printed : goal.returns-in-Absent-clause-printed
+returns-in-Absent-clause-printed g c = tells _ (absent c.in-Absent.file) c.args.refusal.now _ _ c.print_file.result (absent_text c.in-Absent.file) (ap refusal_of (sym c.in-Absent.is)) c.print_file.ensures.printed
+
+pub returns-in-Shelf-clause-printed : goal.returns-in-Shelf-clause-printed
+returns-in-Shelf-clause-printed g c = tells _ (shelf c.in-Shelf.file) c.args.refusal.now _ _ c.print_file-in-Shelf.result (shelf_text c.in-Shelf.file) (ap refusal_of (sym c.in-Shelf.is)) c.print_file-in-Shelf.ensures.printed
+
+pub returns-in-TooLong-clause-printed : goal.returns-in-TooLong-clause-printed
+returns-in-TooLong-clause-printed g c = tells _ (too_long c.in-TooLong.file) c.args.refusal.now _ _ c.print_file-in-TooLong.result (too_long_text c.in-TooLong.file) (ap refusal_of (sym c.in-TooLong.is)) c.print_file-in-TooLong.ensures.printed
+
+pub returns-in-Malformed-clause-printed : goal.returns-in-Malformed-clause-printed
+returns-in-Malformed-clause-printed g c = tells _ (malformed c.in-Malformed.file c.in-Malformed.number c.in-Malformed.reason) c.args.refusal.now _ _ c.print_line.result (malformed_text c.in-Malformed.file c.in-Malformed.number c.in-Malformed.reason c.text.result.now c.text.ensures) (ap refusal_of (sym c.in-Malformed.is)) c.print_line.ensures.printed
+
+pub returns-in-Full-clause-printed : goal.returns-in-Full-clause-printed
+returns-in-Full-clause-printed g c = tells _ (full c.in-Full.file c.in-Full.number c.in-Full.table) c.args.refusal.now _ _ c.print_line-in-Full.result (full_text c.in-Full.file c.in-Full.number c.in-Full.table c.text-in-Full.result.now c.text-in-Full.ensures) (ap refusal_of (sym c.in-Full.is)) c.print_line-in-Full.ensures.printed
+
+pub returns-in-Memory-clause-printed : goal.returns-in-Memory-clause-printed
+returns-in-Memory-clause-printed g c = tells _ memory c.args.refusal.now _ _ c.print-in-Memory.result refl (ap refusal_of (sym c.in-Memory.is)) c.print-in-Memory.ensures.printed
