@@ -17,7 +17,7 @@ use Rattle.gaz_lines.specs.declared.window.Span.{Span}
 use Rattle.gaz_lines.specs.declared.fault.LineFault.{LineFault}
 use Rattle.gaz_lines.specs.declared.fault.LineFault.TheVariants.{Failed, TooLong, FileTooLong}
 use Rattle.gaz_lines.proofs.Lists.{line_append}
-use Rattle.gaz_lines.proofs.Reading.{Reading, rest_kept, zeros_line, zeros_size, no_front}
+use Rattle.gaz_lines.proofs.Reading.{Reading, goes_on, rest_kept, zeros_line, zeros_size, no_front}
 use Rattle.gaz_lines.proofs.Rests.{prepend_two, prepend_none, same_rest, cut_first, not_too_long, too_long, rest_nil, rest_much, rest_with}
 
 -- the bytes at a place, where it lies within the buffer
@@ -56,7 +56,7 @@ module _ (old cutter new : LineCutter) (searched size : ℕ) (left now : Option 
     line_size : length cut_line ≡ cutter.dropped + size
     line_size = length-append r.front (take size (items cutter.window)) ∙ omega (arith, r.front_size, length-take-le size (items cutter.window) within)
 
-    cuts_lf : (result : Result (Option Span) LineFault) → IsLine (take size (items cutter.window)) → size < length (items cutter.window) → slice_index (items cutter.window) size ≡ 10 → CutOff size 1 cutter new result → Cuts cut_line old.allowed new.allowed (pending old left) (pending new now)
+    cuts_lf : (result : Result (Option Span) LineFault) → IsLine (take size (items cutter.window)) → size < length (items cutter.window) → slice_index (items cutter.window) size ≡ 10 → CutOff size 1 cutter new result → Cuts (HasEnded new) cut_line old.allowed new.allowed (pending old left) (pending new now)
     cuts_lf result is below lf c =
         let add_one : suc size ≡ size + 1 = omega arith in
         let behind = drop (size + 1) (items cutter.window) in
@@ -76,7 +76,7 @@ module _ (old cutter new : LineCutter) (searched size : ℕ) (left now : Option 
         }
 
   module _ (whole : size ≡ length (items cutter.window)) where
-    cuts_end : (result : Result (Option Span) LineFault) → IsLine (items cutter.window) → HasEnded cutter → 0 < cutter.dropped + length (items cutter.window) → CutOff size 0 cutter new result → Cuts cut_line old.allowed new.allowed (pending old left) (pending new now)
+    cuts_end : (result : Result (Option Span) LineFault) → IsLine (items cutter.window) → HasEnded cutter → 0 < cutter.dropped + length (items cutter.window) → CutOff size 0 cutter new result → Cuts (HasEnded new) cut_line old.allowed new.allowed (pending old left) (pending new now)
     cuts_end result is ended some c =
         let all : take size (items cutter.window) ≡ items cutter.window = ap (λ n. take n (items cutter.window)) whole ∙ take_all (length (items cutter.window)) (items cutter.window) (omega arith) in
         let none : items new.window ≡ [] = c.held ∙ drop_of_length-le (items cutter.window) (omega (arith, whole)) in
@@ -90,12 +90,13 @@ module _ (old cutter new : LineCutter) (searched size : ℕ) (left now : Option 
             subst (λ o. IfSome o (λ bytes. bytes ≡ [])) (sym pending_new) (r.ended ended),
             omega (arith, c.allowed, r.allowed, long, whole),
             omega (arith, long, some),
+            c.same.ended ∙ ended,
           );
         }
 
-  module _ (ending : ℕ) (fits : size ≤ length (items cutter.window)) (cuts : Cuts cut_line old.allowed new.allowed (pending old left) (pending new now)) where
+  module _ (ending : ℕ) (fits : size ≤ length (items cutter.window)) (cuts : Cuts (HasEnded new) cut_line old.allowed new.allowed (pending old left) (pending new now)) where
     first_goes : rest old left ≡ option_map (onto (unless_too_long old.line_limit cut_line)) (option_map (rest_of old.line_limit new.allowed) (pending new now))
-    first_goes = cut_first old.line_limit old.allowed new.allowed cut_line (pending old left) (pending new now) cuts
+    first_goes = cut_first (HasEnded new) old.line_limit old.allowed new.allowed cut_line (pending old left) (pending new now) cuts
 
     gave_cut : (result : Result (Option Span) LineFault) → CutOff size ending cutter new result → Gave old new left now (answer_of (text_at new.window) result)
     gave_cut (Ok (Some span)) c =
@@ -109,12 +110,13 @@ module _ (old cutter new : LineCutter) (searched size : ℕ) (left now : Option 
               ∙ ap (λ k. option_map (onto (Some (text_at new.window span))) (option_map (rest_of k new.allowed) (pending new now))) (sym limit_is);
           line = record {
             within = subst (λ line. length line ≤ old.line_limit) (sym shown) within;
-            cuts = subst (λ line. Cuts line old.allowed new.allowed (pending old left) (pending new now)) (sym shown) cuts;
+            cuts = subst (λ line. Cuts (HasEnded new) line old.allowed new.allowed (pending old left) (pending new now)) (sym shown) cuts;
           };
           refuses = tt;
           numbers = c.number ∙ ap (λ n. n + 1) r.number;
           closes = tt;
           ended = λ is. r.ended (sym c.same.ended ∙ is);
+          still_ended = λ is. c.same.ended ∙ r.still_ended is;
           line_limit = limit_is;
           file_limit = c.same.file_limit ∙ r.file_limit;
         }
@@ -133,6 +135,7 @@ module _ (old cutter new : LineCutter) (searched size : ℕ) (left now : Option 
           numbers = (c.number ∙ ap (λ k. k + 1) r.number, c.shows.0);
           closes = tt;
           ended = λ is. r.ended (sym c.same.ended ∙ is);
+          still_ended = λ is. c.same.ended ∙ r.still_ended is;
           line_limit = limit_is;
           file_limit = c.same.file_limit ∙ r.file_limit;
         }
@@ -176,6 +179,7 @@ module _ (old cutter new : LineCutter) (searched : ℕ) (left now : Option (List
         numbers = ap (λ c. c.number) same ∙ r.number;
         closes = ap (λ c. c.ended) same ∙ ended;
         ended = λ is. empty;
+        still_ended = λ is. ap (λ c. c.ended) same ∙ ended;
         line_limit = limit_is;
         file_limit = ap (λ c. c.file_limit) same ∙ r.file_limit;
       }
@@ -197,6 +201,7 @@ module _ (old cutter new : LineCutter) (searched : ℕ) (left now : Option (List
           front_past cutter.allowed zeros (items cutter.window) (zeros_line cutter.dropped) (subst (λ n. n ≤ cutter.allowed) (sym (zeros_size cutter.dropped)) cutter.within) (subst (λ n. IsLine (take (cutter.allowed - n) (items cutter.window))) (sym (zeros_size cutter.dropped)) is) (omega (arith, more, zeros_size cutter.dropped)),
           omega (arith, more, zeros_size cutter.dropped, length-append zeros (items cutter.window)),
         );
+        still_ended = λ is_ended. ap (λ c. c.ended) same ∙ r.still_ended is_ended;
         ended = λ is_ended. r.ended (ap (λ c. c.ended) (sym same) ∙ is_ended);
         line_limit = limit_is;
         file_limit = ap (λ c. c.file_limit) same ∙ r.file_limit;
@@ -217,6 +222,7 @@ gave_failed old cutter mid next searched count left now later r step same untake
   refuses = tt;
   numbers = number ∙ step.3.number ∙ r.number;
   closes = tt;
+  still_ended = λ is. absurd (goes_on old cutter mid searched count left now r step is);
   ended = λ is. subst (λ o. IfSome o (λ bytes. bytes ≡ [])) (sym untaken) (r.ended (sym (ended ∙ step.3.same.ended) ∙ is));
   line_limit = line_limit ∙ step.3.same.line_limit ∙ r.line_limit;
   file_limit = file_limit ∙ step.3.same.file_limit ∙ r.file_limit;

@@ -1,3 +1,4 @@
+pub mod Callers
 pub mod Giving
 pub mod Keeping
 pub mod Lists

@@ -1,7 +1,8 @@
 -- The lines of a text, one after another.
-use Rattle.std.proofs.Common.{◌≡◌, ◌≢◌, ℕ, suc, ◌+◌, ◌-◌, ◌<◌, ◌≤◌, Bool, true, false, cond, List, [], ◌∷◌, ◌++◌, length, take, refl, ap, arith, ◌∙◌, length-append}
+use Rattle.std.proofs.Common.{sym, ◌≡◌, ◌≢◌, ℕ, suc, ◌+◌, ◌-◌, ◌<◌, ◌≤◌, Bool, true, false, cond, List, [], ◌∷◌, ◌++◌, length, take, refl, ap, arith, ◌∙◌, length-append}
 use Rattle.std.specs.Prelude.{◌==◌, nat_lt}
-use Rattle.std.specs.List.{onto_first}
+use Rattle.std.specs.List.{onto_first, AllByRecursion}
+use Rattle.std.proofs.lemmas.Bool.{false≢true, eq-eqb}
 use Rattle.std.proofs.lemmas.Grind.{common_steps}
 use Rattle.std.proofs.Math.Seq.{take-append-add}
 use Rattle.gaz_num.specs.Pieces.{pieces, lines, ended_lines, lines_up_to, is_past, all_but_last, last_if_any, if_any}
@@ -9,6 +10,9 @@ use Rattle.gaz_lines.specs.Lines.{IsLine}
 
 not_lf : (b : ℕ) → b ≢ 10 → (b == 10) ≡ false
 not_lf b other = grind (arith, common_steps)
+
+not_ten : (b : ℕ) → (b == 10) ≡ false → b ≢ 10
+not_ten b other is = absurd (false≢true (sym other ∙ eq-eqb b 10 is))
 
 pub pieces_line : (text rest : List ℕ) → IsLine text → pieces 10 (text ++ 10 ∷ rest) ≡ text ∷ pieces 10 rest
 pieces_line [] rest is = refl
@@ -89,3 +93,42 @@ up_to_much limit bytes is more = rw (test_true limit (length bytes) more, pieces
 
 pub up_to_nil : (limit : ℕ) → lines_up_to limit [] ≡ []
 up_to_nil limit = rw (test_false limit 0 (omega arith)) refl
+
+-- Each line is one: no LF is in it
+
+onto_are_lines : (t : Bool) (b : ℕ) (ps : List (List ℕ)) → (b == 10) ≡ t → AllByRecursion IsLine ps → AllByRecursion IsLine (cond t ([] ∷ ps) (onto_first b ps))
+onto_are_lines true b ps lf are = (tt, are)
+onto_are_lines false b [] other are = ((not_ten b other, tt), tt)
+onto_are_lines false b (p ∷ ps) other are = ((not_ten b other, are.0), are.1)
+
+pieces_are_lines : (bytes : List ℕ) → AllByRecursion IsLine (pieces 10 bytes)
+pieces_are_lines [] = (tt, tt)
+pieces_are_lines (b ∷ bytes) = onto_are_lines (b == 10) b (pieces 10 bytes) refl (pieces_are_lines bytes)
+
+all_but_are : (ps : List (List ℕ)) → AllByRecursion IsLine ps → AllByRecursion IsLine (all_but_last ps)
+all_but_are [] are = tt
+all_but_are (p ∷ []) are = tt
+all_but_are (p ∷ q ∷ ps) are = (are.0, all_but_are (q ∷ ps) are.1)
+
+if_any_is : (p : List ℕ) → IsLine p → AllByRecursion IsLine (if_any p)
+if_any_is [] is = tt
+if_any_is (b ∷ p) is = (is, tt)
+
+last_is : (ps : List (List ℕ)) → AllByRecursion IsLine ps → AllByRecursion IsLine (last_if_any ps)
+last_is [] are = tt
+last_is (p ∷ []) are = if_any_is p are.0
+last_is (p ∷ q ∷ ps) are = last_is (q ∷ ps) are.1
+
+pub are_more : (xs ys : List (List ℕ)) → AllByRecursion IsLine xs → AllByRecursion IsLine ys → AllByRecursion IsLine (xs ++ ys)
+are_more [] ys front behind = behind
+are_more (x ∷ xs) ys front behind = (front.0, are_more xs ys front.1 behind)
+
+either_are : (t : Bool) (xs ys : List (List ℕ)) → AllByRecursion IsLine xs → AllByRecursion IsLine ys → AllByRecursion IsLine (cond t xs ys)
+either_are true xs ys front behind = front
+either_are false xs ys front behind = behind
+
+pub lines_are_lines : (limit : ℕ) (text : List ℕ) → AllByRecursion IsLine (lines_up_to limit text)
+lines_are_lines limit text =
+    either_are (is_past limit text) (ended_lines (take limit text)) (lines text)
+      (all_but_are (pieces 10 (take limit text)) (pieces_are_lines (take limit text)))
+      (are_more (ended_lines text) (last_if_any (pieces 10 text)) (all_but_are (pieces 10 text) (pieces_are_lines text)) (last_is (pieces 10 text) (pieces_are_lines text)))

@@ -2,6 +2,7 @@
 use Rattle.std.proofs.Common.{◌≡◌, ◌≢◌, ℕ, zero, suc, ◌+◌, ◌<◌, ◌≤◌, List, [], ◌∷◌, ◌++◌, length, take, refl, ap, arith, ◌∙◌, sym, subst, length-append, append_assoc, Option, inl, inr}
 use Rattle.std.specs.Prelude.{IfSome, option_map}
 use Rattle.std.specs.List.{repeat}
+use Rattle.std.proofs.lemmas.Bool.{false≢true}
 use Rattle.std.specs.Io.KnownBytes.{prepend_known}
 use Rattle.std.proofs.Math.Seq.{take-append_seam}
 use Rattle.std.proofs.lemmas.List.{append-nil}
@@ -26,6 +27,7 @@ pub record Reading (old cutter : LineCutter) (searched : ℕ) (left left_now : O
   pub searched_held : searched ≤ length (items cutter.window)
   pub searched_within : cutter.dropped + searched ≤ cutter.allowed
   pub ended : HasEnded cutter → IfSome left_now (λ bytes. bytes ≡ [])
+  pub still_ended : HasEnded old → HasEnded cutter
   pub allowed : cutter.allowed ≡ old.allowed
   pub number : cutter.number ≡ old.number
   pub line_limit : cutter.line_limit ≡ old.line_limit
@@ -58,6 +60,7 @@ module _ (old cutter : LineCutter) (left : Option (List ℕ)) (ended : HasEnded 
     searched_held = omega arith;
     searched_within = omega (arith, cutter.within);
     ended = λ is. ended (sym same ∙ is);
+    still_ended = λ is. same ∙ is;
     allowed = allowed;
     number = number;
     line_limit = line_limit;
@@ -107,6 +110,10 @@ module _ (old cutter mid : LineCutter) (searched count : ℕ) (left now : Option
   text_within : length (r.front ++ items cutter.window) ≤ old.allowed
   text_within = omega (arith, length-append r.front (items cutter.window), r.front_size, step.1, r.allowed)
 
+  -- It isn't asked after the end.
+  pub goes_on : HasEnded old → ⊥
+  goes_on is = absurd (false≢true (sym step.2 ∙ r.still_ended is))
+
   -- the source was asked
   pub waited : (room : ℕ) (chunk : List ℕ) (later : Option (List ℕ)) → now ≡ prepend_known chunk later → length chunk ≤ room → Waited old.allowed room (held old) (pending old left) later
   waited room chunk later took fits = record {
@@ -136,6 +143,7 @@ module _ (old cutter mid : LineCutter) (searched count : ℕ) (left now : Option
         searched_line = subst IsLine (sym (ap (take count) more ∙ ap (λ k. take k (items mid.window ++ chunk)) room.count_is ∙ take-append_seam (items mid.window) chunk)) m.held_line;
         searched_held = omega (arith, ap length more, length-append (items mid.window) chunk, room.count_is);
         searched_within = omega (arith, m.within, dropped, allowed);
+        still_ended = λ is. absurd (goes_on is);
         ended = λ is. after_nothing chunk now later took (size ∙ ends is) (end (ends is));
         allowed = allowed ∙ room.allowed ∙ r.allowed;
         number = number ∙ room.number ∙ r.number;

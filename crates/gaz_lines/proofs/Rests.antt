@@ -66,10 +66,10 @@ goes_last limit allowed now line (Some bytes) is some size empty =
     ∙ sym (ap (λ bs. onto (unless_too_long limit line) (rest_of limit now bs)) empty))
 
 -- what is cut stood first
-pub cut_first : (limit allowed now : ℕ) (line : List ℕ) (old new : Option (List ℕ)) → Cuts line allowed now old new → option_map (rest_of limit allowed) old ≡ option_map (onto (unless_too_long limit line)) (option_map (rest_of limit now) new)
-cut_first limit allowed now line old new cuts = elim cuts.ends [
+pub cut_first : (at_end : Type 0) (limit allowed now : ℕ) (line : List ℕ) (old new : Option (List ℕ)) → Cuts at_end line allowed now old new → option_map (rest_of limit allowed) old ≡ option_map (onto (unless_too_long limit line)) (option_map (rest_of limit now) new)
+cut_first at_end limit allowed now line old new cuts = elim cuts.ends [
   | inl with_lf ↦ ap (option_map (rest_of limit allowed)) with_lf.0 ∙ goes limit allowed now line new cuts.is_line with_lf.1
-  | inr at_end ↦ ap (option_map (rest_of limit allowed)) at_end.0 ∙ goes_last limit allowed now line new cuts.is_line at_end.3 at_end.2 at_end.1
+  | inr without ↦ ap (option_map (rest_of limit allowed)) without.0 ∙ goes_last limit allowed now line new cuts.is_line without.3 without.2 without.1
 ]
 
 pub not_too_long : (limit : ℕ) (line : List ℕ) → length line ≤ limit → unless_too_long limit line ≡ Some line

@@ -55,10 +55,10 @@ abbrev pub MayReadSource : LineCutter → Type 0
 MayReadSource cutter = (cutter.reads ≡ Nothing) ⊎ (cutter.reads ≡ Source)
 
 -- A line of what is pending goes, with its LF, or at the end, where it isn't empty.
-pub record Cuts (line : List ℕ) (allowed allowed_now : ℕ) (old new : Option (List ℕ)) : Type 0 where
+pub record Cuts (at_end : Type 0) (line : List ℕ) (allowed allowed_now : ℕ) (old new : Option (List ℕ)) : Type 0 where
   pub is_line : IsLine line
   pub ends : ((old ≡ prepend_known (line ++ 10 ∷ []) new) × (allowed ≡ allowed_now + (length line + 1)))
-      ⊎ ((old ≡ prepend_known line new) × IfSome new (λ bytes. bytes ≡ []) × (allowed ≡ allowed_now + length line) × (0 < length line))
+      ⊎ ((old ≡ prepend_known line new) × IfSome new (λ bytes. bytes ≡ []) × (allowed ≡ allowed_now + length line) × (0 < length line) × at_end)
 
 -- what was answered, as bytes
 abbrev pub answer_of : {X : Type 0} → (X → List ℕ) → Result (Option X) LineFault → Result (Option (List ℕ)) LineFault
@@ -75,15 +75,15 @@ GivesFirst old new (Err FileTooLong) = (new ≡ old) × IfSome old (λ rest. res
 GivesFirst old new (Err Failed) = new ≡ old
 
 -- A line that is given has no LF, and goes with its LF, or at the end. It is within the limit, as its bytes are.
-pub record GivesLine (limit allowed allowed_now : ℕ) (old new : Option (List ℕ)) (line : List ℕ) : Type 0 where
+pub record GivesLine (at_end : Type 0) (limit allowed allowed_now : ℕ) (old new : Option (List ℕ)) (line : List ℕ) : Type 0 where
   pub within : length line ≤ limit
-  pub cuts : Cuts line allowed allowed_now old new
+  pub cuts : Cuts at_end line allowed allowed_now old new
 
 -- A line that is too long goes like any other.
-pub record Refuses (limit allowed allowed_now : ℕ) (old new : Option (List ℕ)) : Type 0 where
+pub record Refuses (at_end : Type 0) (limit allowed allowed_now : ℕ) (old new : Option (List ℕ)) : Type 0 where
   pub line : List ℕ
   pub too_long : limit < length line
-  pub cuts : Cuts line allowed allowed_now old new
+  pub cuts : Cuts at_end line allowed allowed_now old new
 
 -- What holds where a line is too long, and nothing where not.
 abbrev pub OnTooLong : {X : Type 0} → Result X LineFault → Type 0 → Type 0
@@ -118,11 +118,12 @@ pub record IsFresh (cutter : LineCutter) : Type 0 where
 -- What one call gave.
 pub record Gave (old new : LineCutter) (left left_now : Option (List ℕ)) (answer : Result (Option (List ℕ)) LineFault) : Type 0 where
   pub gives : GivesFirst (rest old left) (rest new left_now) answer
-  pub line : IfLine (GivesLine old.line_limit old.allowed new.allowed (pending old left) (pending new left_now)) answer
-  pub refuses : OnTooLong answer (Refuses old.line_limit old.allowed new.allowed (pending old left) (pending new left_now))
+  pub line : IfLine (GivesLine (HasEnded new) old.line_limit old.allowed new.allowed (pending old left) (pending new left_now)) answer
+  pub refuses : OnTooLong answer (Refuses (HasEnded new) old.line_limit old.allowed new.allowed (pending old left) (pending new left_now))
   pub numbers : Numbers old.number new.number answer
   pub closes : Closes new answer
-  -- After the end nothing is left.
+  -- After the end nothing is left, and it stays the end.
+  pub still_ended : HasEnded old → HasEnded new
   pub ended : HasEnded new → IfSome left_now (λ bytes. bytes ≡ [])
   pub line_limit : new.line_limit ≡ old.line_limit
   pub file_limit : new.file_limit ≡ old.file_limit
@@ -145,6 +146,6 @@ OnFailed (Err Failed) P = P
 OnFailed other P = Unit {0}
 
 -- The count of faults rises by one where the call failed, and else stands.
-abbrev pub Blames : {X : Type 0} → ℕ → ℕ → Result X LineFault → Type 0
-Blames before now (Err Failed) = RisesOnce before now
-Blames before now other = now ≡ before
+abbrev pub FailedOnce : {X : Type 0} → ℕ → ℕ → Result X LineFault → Type 0
+FailedOnce before now (Err Failed) = RisesOnce before now
+FailedOnce before now other = now ≡ before

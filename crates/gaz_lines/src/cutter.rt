@@ -48,7 +48,7 @@ pub(crate) enum Step {
 impl LineCutter {
     ghost use Rattle.gaz_lines.specs.Lines.{IsLine};
     ghost use Rattle.gaz_lines.specs.Window.{items, bytes_at, text_at, has_room};
-    ghost use Rattle.gaz_lines.specs.Cutter.{held, pending, HasEnded, IsPast, ReadsSource, MayReadSource, line_limit_of, file_limit_of, allowed_of, line_of, IsFresh, Gave, Waited, Blames, IfLine, OnFailed, answer_of};
+    ghost use Rattle.gaz_lines.specs.Cutter.{held, pending, HasEnded, IsPast, ReadsSource, MayReadSource, line_limit_of, file_limit_of, allowed_of, line_of, IsFresh, Gave, Waited, FailedOnce, IfLine, OnFailed, answer_of};
     ghost use Rattle.gaz_lines.specs.declared.fault.LineFault.TheVariants.{FileTooLong};
     ghost use Rattle.gaz_lines.specs.contracts.cutter.LineCutter.{the_row};
     ghost use Rattle.gaz_lines.specs.Step.{SameBut, CutOff, Stepped, MadeRoom};
@@ -164,9 +164,9 @@ impl LineCutter {
             ⊎ Waited self.old.allowed 65536 (held self.old) (pending self.old (left_of (S.view source.old))) (left_of (S.view source.new)) }
         ensures waits_in_vain { OnFailed result (Waited self.old.allowed 0 (held self.old) (pending self.old (left_of (S.view source.old))) (left_of (S.view source.new))) }
         ensures past { IsPast self.old → result ≡ Err FileTooLong }
-        ensures rests { HasEnded self.old → source.new ≡ source.old }
+        ensures rests { HasEnded self.old → (source.new ≡ source.old) × OnFailed result ⊥ }
         ensures told { (S.view source.new).is_told ≡ (S.view source.old).is_told }
-        ensures cause { Blames (S.view source.old).faults (S.view source.new).faults result }
+        ensures cause { FailedOnce (S.view source.old).faults (S.view source.new).faults result }
     {
         self.reads = Reads::Source;
         let mut searched = 0;
@@ -194,9 +194,9 @@ impl LineCutter {
             ⊎ Waited (allowed_of self.old) 65536 (held self.old) (pending self.old (left_of (S.view source.old))) (left_of (S.view source.new)) }
         ensures waits_in_vain { OnFailed result (Waited (allowed_of self.old) 0 (held self.old) (pending self.old (left_of (S.view source.old))) (left_of (S.view source.new))) }
         ensures past { IsPast self.old → result ≡ Err FileTooLong }
-        ensures rests { HasEnded self.old → source.new ≡ source.old }
+        ensures rests { HasEnded self.old → (source.new ≡ source.old) × OnFailed result ⊥ }
         ensures told { (S.view source.new).is_told ≡ (S.view source.old).is_told }
-        ensures cause { Blames (S.view source.old).faults (S.view source.new).faults result }
+        ensures cause { FailedOnce (S.view source.old).faults (S.view source.new).faults result }
     {
         match self.find_in(source) {
             Ok(Some(span)) => Ok(Some(self.window.shown(span))),
