@@ -1,0 +1,147 @@
+-- A line that is taken, a load and a day make gazetteers of gazetteers.
+use Rattle.std.proofs.Common.{◌≡◌, ℕ, suc, ◌<◌, ◌≤◌, Bool, true, false, eqb, List, [], ◌∷◌, length, Option, Some, None, Result, Ok, Err, IfOk, IsSome, IsTrue, refl, sym, ap, subst, ◌∙◌, arith}
+use mathlib.Core.Bool.{true≢false}
+use Rattle.std.specs.Prelude.{if◌then◌else◌, nat_lt, is_some}
+use Rattle.std.specs.List.{All, AllPairs}
+use Rattle.std.proofs.lemmas.Bool.Decides.{nat_tests}
+use Rattle.std.proofs.lemmas.List.Elements.{All-nil, All-cons}
+use Rattle.gaz_num.specs.declared.words.Kind.{Kind}
+use Rattle.gaz_num.specs.declared.words.Kind.TheVariants.{Row, RowDelete}
+use Rattle.gaz_num.specs.declared.words.Table.{Table}
+use Rattle.gaz_num.specs.declared.words.Table.TheVariants.{Rows}
+use Rattle.gaz_num.specs.declared.words.Reason.{Reason}
+use Rattle.gaz_num.specs.Check.{reason_against, key_in}
+use Rattle.gaz_num.specs.Refusal.{Refusal, sequence, ◌>>=◌}
+use Rattle.gaz_plain.specs.Gazetteer.{Gazetteer, empty, dated, LineFault, IsLine, IsTable, IsGazetteer, KeysRise, limit_of, lines_in, with_lines, in_tables, key_of, table_of, put_by, replaced, is_one_line, step, step_at, if_within, after_check, after_line}
+use Rattle.gaz_plain.specs.Fold.{File, fold}
+use Rattle.gaz_plain.specs.Load.{Files, load, day, load_files, day_files, files_of, in_sequence}
+use Rattle.gaz_plain.specs.Laws.{IsOf, FoldKeeps, PartKeeps, LoadGives, DayGives, DayTwice}
+use Rattle.gaz_plain.proofs.Tables.{IsTable-replaced, rising_one, rising_none}
+use Rattle.gaz_plain.proofs.Folds.{LinesKeep, IfOk-bind, IfOk-always, IfOk-weaker, fold_keeps, part_keeps}
+use Rattle.gaz_plain.proofs.Steps.{key_of_row}
+
+-- other rows that are a table
+rows_kept : (date : Option ℕ) → IsSome date → (gaz : Gazetteer) (rows : List (List ℕ)) → IsOf date gaz → IsTable Rows rows → IsOf date (with_lines gaz Rows rows)
+rows_kept date some gaz rows is table = record {
+  is_gazetteer = record {
+    tables = λ t. by t;
+    no_more = ap (λ g. with_lines g Rows rows) is.is_gazetteer.no_more;
+    undated = λ none. absurd (true≢false (sym some ∙ ap is_some (sym is.has_date ∙ none)));
+  };
+  has_date = is.has_date;
+}
+  where
+    by : (t : Table) → IsTable t (lines_in (with_lines gaz Rows rows) t)
+    by Rows = table
+
+pub row_kept : (date : Option ℕ) → IsSome date → (gaz : Gazetteer) (line : List ℕ) → IsLine Row line → IsOf date gaz → (found : Option (List ℕ)) → key_in Row line ≡ found → length (step_at gaz Row line found).rows ≤ limit_of Rows → IsOf date (step_at gaz Row line found)
+row_kept date some gaz line is_line is None e within = is
+row_kept date some gaz line is_line is (Some key) e within =
+    rows_kept date some gaz (replaced Rows key (line ∷ []) gaz.rows) is
+    (IsTable-replaced Rows key (line ∷ []) gaz.rows (is.is_gazetteer.tables Rows)
+    (All-cons (IsLine Row) line [] is_line (All-nil (IsLine Row)))
+    (All-cons (λ l. key_of Rows l ≡ key) line [] (key_of_row line key e) (All-nil (λ l. key_of Rows l ≡ key)))
+    (rising_one Rows line) within)
+
+pub delete_kept : (date : Option ℕ) → IsSome date → (gaz : Gazetteer) (line : List ℕ) → IsOf date gaz → (found : Option (List ℕ)) → length (step_at gaz RowDelete line found).rows ≤ limit_of Rows → IsOf date (step_at gaz RowDelete line found)
+delete_kept date some gaz line is None within = is
+delete_kept date some gaz line is (Some key) within =
+    rows_kept date some gaz (replaced Rows key [] gaz.rows) is
+    (IsTable-replaced Rows key [] gaz.rows (is.is_gazetteer.tables Rows) (All-nil (IsLine Row)) (All-nil (λ l. key_of Rows l ≡ key)) (rising_none Rows) within)
+
+-- a step within the limit
+step_kept : (date : Option ℕ) → IsSome date → (gaz : Gazetteer) (kind : Kind) (line : List ℕ) → IsLine kind line → IsOf date gaz → length (lines_in (step gaz kind line) (table_of kind)) ≤ limit_of (table_of kind) → IsOf date (step gaz kind line)
+step_kept date some gaz Row line is_line is within = row_kept date some gaz line is_line is (key_in Row line) refl within
+step_kept date some gaz RowDelete line is_line is within = delete_kept date some gaz line is (key_in RowDelete line) within
+
+within_kept : (P : Gazetteer → Type 0) (table : Table) (gaz : Gazetteer) (test : Bool) → nat_lt (limit_of table) (length (lines_in gaz table)) ≡ test → (length (lines_in gaz table) ≤ limit_of table → P gaz) → IfOk (if_within table gaz) P
+within_kept P table gaz true e holds = rw e tt
+within_kept P table gaz false e holds = rw e (holds (grind (arith, nat_tests)))
+
+check_kept : (P : Gazetteer → Type 0) (gaz : Gazetteer) (kind : Kind) (line : List ℕ) (found : Option Reason) → (found ≡ None → IfOk (if_within (table_of kind) (step gaz kind line)) P) → IfOk (after_check gaz kind line found) P
+check_kept P gaz kind line (Some reason) holds = tt
+check_kept P gaz kind line None holds = holds refl
+
+-- a line that is taken keeps what a gazetteer is
+pub line_keeps : (date : Option ℕ) → IsSome date → LinesKeep (IsOf date)
+unfolding after_line
+line_keeps date some gaz kind bytes one is =
+    check_kept (IsOf date) gaz kind bytes (reason_against kind bytes) (λ accepted.
+    within_kept (IsOf date) (table_of kind) (step gaz kind bytes) _ refl (λ within.
+    step_kept date some gaz kind bytes (record { accepted = accepted; one_line = one }) is within))
+
+step_date : (gaz : Gazetteer) (kind : Kind) (line : List ℕ) (found : Option (List ℕ)) → (step_at gaz kind line found).date ≡ gaz.date
+step_date gaz Row line None = refl
+step_date gaz Row line (Some key) = refl
+step_date gaz RowDelete line None = refl
+step_date gaz RowDelete line (Some key) = refl
+
+-- a line that is taken keeps the date
+line_keeps_date : (date : Option ℕ) → LinesKeep (λ gaz. gaz.date ≡ date)
+unfolding after_line
+line_keeps_date date gaz kind bytes one is =
+    check_kept (λ g. g.date ≡ date) gaz kind bytes (reason_against kind bytes) (λ accepted.
+    within_kept (λ g. g.date ≡ date) (table_of kind) (step gaz kind bytes) _ refl (λ within.
+    step_date gaz kind bytes (key_in kind bytes) ∙ is))
+
+pub fold_gives : FoldKeeps
+fold_gives gaz files is some = fold_keeps (IsOf gaz.date) (line_keeps gaz.date some) gaz files (record { is_gazetteer = is; has_date = refl })
+
+pub part_gives : PartKeeps
+part_gives gaz files n is some = part_keeps (IsOf gaz.date) (line_keeps gaz.date some) gaz files n (record { is_gazetteer = is; has_date = refl })
+
+-- the gazetteer with a date
+dated_is : (gaz : Gazetteer) (date : ℕ) → IsGazetteer gaz → IsOf (Some date) (dated gaz date)
+dated_is gaz date is = record {
+  is_gazetteer = record {
+    tables = λ t. by t;
+    no_more = ap (λ g. dated g date) is.no_more;
+    undated = λ none. cc;
+  };
+  has_date = refl;
+}
+  where
+    by : (t : Table) → IsTable t (lines_in (dated gaz date) t)
+    by Rows = is.tables Rows
+
+-- the empty one is a gazetteer
+pub empty_is : IsGazetteer empty
+empty_is = record { tables = λ t. by t; no_more = refl; undated = λ none. refl }
+  where
+    by : (t : Table) → IsTable t (lines_in empty t)
+    by Rows = record { each = All-nil (IsLine Row); rising = rising_none Rows; within = grind arith }
+
+folded : (P : Gazetteer → Type 0) → LinesKeep P → (gaz : Gazetteer) → P gaz → (files : Result (List File) Refusal) → IfOk (files >>= λ found. fold gaz found) P
+folded P keep gaz holds files = IfOk-bind P files (λ found. fold gaz found) (IfOk-always (λ found. IfOk (fold gaz found) P) files (λ found. fold_keeps P keep gaz found holds))
+
+pub load_gives : LoadGives
+unfolding load
+load_gives shelf date = folded (IsOf (Some date)) (line_keeps (Some date) refl) (dated empty date) (dated_is empty date empty_is) (files_of shelf load_files)
+
+next_is : (have : Option ℕ) (date : ℕ) → IfOk (in_sequence have date) (λ next. next ≡ date)
+next_is None date = tt
+next_is (Some have) date = by (eqb date (suc have))
+  where
+    by : (test : Bool) → IfOk (if test then Ok date else Err (sequence have)) (λ next. next ≡ date)
+    by true = refl
+    by false = tt
+
+day_keeps : (P : Gazetteer → Type 0) (gaz : Gazetteer) (shelf : Files) (date : ℕ) → LinesKeep P → P (dated gaz date) → IfOk (day gaz shelf date) P
+unfolding day
+day_keeps P gaz shelf date keep holds =
+    IfOk-bind P (in_sequence gaz.date date) (λ next. files_of shelf (day_files next) >>= λ files. fold (dated gaz next) files)
+    (IfOk-weaker (λ next. next ≡ date) (λ next. IfOk (files_of shelf (day_files next) >>= λ files. fold (dated gaz next) files) P) (in_sequence gaz.date date) (next_is gaz.date date)
+    (λ next same. folded P keep (dated gaz next) (rw same holds) (files_of shelf (day_files next))))
+
+pub day_gives : DayGives
+day_gives gaz shelf date is = day_keeps (IsOf (Some date)) gaz shelf date (line_keeps (Some date) refl) (dated_is gaz date is)
+
+IfOk-at : {A E : Type 0} (P : A → Type 0) (r : Result A E) (x : A) → r ≡ Ok x → IfOk r P → P x
+IfOk-at {A = A} {E = E} P r x e holds = let Q : Result A E → Type 0 = λ s. IfOk s P in subst Q e holds
+
+pub day_once : DayTwice
+unfolding day
+day_once gaz new shelf later date accepted =
+    let same : new.date ≡ Some date = IfOk-at (λ g. g.date ≡ Some date) (day gaz shelf date) new accepted (day_keeps (λ g. g.date ≡ Some date) gaz shelf date (line_keeps_date (Some date)) refl) in
+    let other : eqb date (suc date) ≡ false = grind (arith, nat_tests) in
+    rw (same, other) refl

@@ -1,0 +1,31 @@
+-- The order of keys, and what is found and kept in lists by tests of keys.
+use Rattle.std.proofs.Common.{◌≡◌, ◌≢◌, ℕ, Bool, true, false, cond, List, [], ◌∷◌, filter, Option, Some, None, refl, sym, ap, ◌∙◌, arith}
+use mathlib.Core.Bool.{true≢false}
+use Rattle.std.specs.List.{find}
+use Rattle.std.specs.Cmp.{IsTotalOrder}
+use Rattle.std.specs.Ordering.{nat_cmp, is_lt, is_gt, is_eq}
+use Rattle.std.specs.declared.cmp.Ordering.{Ordering}
+use Rattle.std.specs.declared.cmp.Ordering.TheVariants.{Less, Equal, Greater}
+use Rattle.std.specs.Cmp.Lexicographic.{slice_cmp}
+use Rattle.std.proofs.lemmas.Cmp.{nat_list_cmp_total, tied_itself}
+use Rattle.std.proofs.lemmas.Map.Text.{is_eq-slice_cmp}
+use Rattle.std.proofs.lemmas.Slice.Eq.{bytes_eq-Decides}
+use Rattle.gaz_plain.specs.Gazetteer.{key_cmp}
+
+-- keys that tie are one
+pub same_key : (a b : List ℕ) → is_eq (key_cmp a b) ≡ true → a ≡ b
+same_key a b tied = (bytes_eq-Decides a b).0 (sym (is_eq-slice_cmp a b) ∙ tied)
+
+-- a key ties with itself
+pub key_ties : (a : List ℕ) → key_cmp a a ≡ Equal
+key_ties a = tied_itself nat_list_cmp_total a
+
+-- what is looked for and passes a filter is found behind it
+pub find-filter : {X : Type 0} (p q : X → Bool) → ((x : X) → p x ≡ true → q x ≡ true) → (xs : List X) → find p (filter q xs) ≡ find p xs
+find-filter p q passes [] = refl
+find-filter p q passes (x ∷ xs) = grind (arith, passes x, find-filter p q passes xs)
+
+-- what is looked for and doesn't pass a filter isn't found behind it
+pub find-filter_none : {X : Type 0} (p q : X → Bool) → ((x : X) → p x ≡ true → q x ≡ false) → (xs : List X) → find p (filter q xs) ≡ None
+find-filter_none p q stops [] = refl
+find-filter_none p q stops (x ∷ xs) = grind (arith, stops x, find-filter_none p q stops xs)

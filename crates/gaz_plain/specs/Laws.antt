@@ -1,0 +1,62 @@
+-- What holds of every step, fold, load and day.
+use Rattle.std.specs.Prelude.{◌≡◌, ◌≢◌, ℕ, ◌<◌, Bool, true, false, List, [], ◌∷◌, ◌++◌, length, sum_by, Option, Some, None, IsSome, Ok, Err, IfOk}
+use Rattle.gaz_num.specs.declared.words.Kind.{Kind}
+use Rattle.gaz_num.specs.declared.words.Table.{Table}
+use Rattle.gaz_num.specs.Check.{key_in}
+use Rattle.gaz_num.specs.Pieces.{lines_within}
+use Rattle.gaz_num.specs.Refusal.{sequence, ◌>>=◌}
+use Rattle.gaz_plain.specs.Gazetteer.{Gazetteer, IsGazetteer, table_of, is_delete, line_with, step}
+use Rattle.gaz_plain.specs.Fold.{File, fold, part}
+use Rattle.gaz_plain.specs.Load.{Files, load, day}
+
+-- A gazetteer with this date.
+pub record IsOf (date : Option ℕ) (gaz : Gazetteer) : Type 0 where
+  pub is_gazetteer : IsGazetteer gaz
+  pub has_date : gaz.date ≡ date
+
+-- What a fold makes of a gazetteer with a date is a gazetteer with that date.
+abbrev pub FoldKeeps : Type 0
+FoldKeeps = (gaz : Gazetteer) (files : List File) → IsGazetteer gaz → IsSome gaz.date → IfOk (fold gaz files) (IsOf gaz.date)
+
+-- So it is where the fold was stopped after n lines.
+abbrev pub PartKeeps : Type 0
+PartKeeps = (gaz : Gazetteer) (files : List File) (n : ℕ) → IsGazetteer gaz → IsSome gaz.date → IfOk (part gaz files n) (IsOf gaz.date)
+
+-- What a load makes is a gazetteer with the date of the load.
+abbrev pub LoadGives : Type 0
+LoadGives = (shelf : Files) (date : ℕ) → IfOk (load shelf date) (IsOf (Some date))
+
+-- What a day makes of a gazetteer is a gazetteer with the date of the day.
+abbrev pub DayGives : Type 0
+DayGives = (gaz : Gazetteer) (shelf : Files) (date : ℕ) → IsGazetteer gaz → IfOk (day gaz shelf date) (IsOf (Some date))
+
+-- A day that was accepted is refused by its date when it comes again, whatever its files are then.
+abbrev pub DayTwice : Type 0
+DayTwice = (gaz new : Gazetteer) (shelf later : Files) (date : ℕ) → day gaz shelf date ≡ Ok new → day new later date ≡ Err (sequence date)
+
+-- A step leaves the line of each table and key that aren't its own.
+abbrev pub StepLeavesOthers : Type 0
+StepLeavesOthers = (gaz : Gazetteer) (kind : Kind) (line : List ℕ) (table : Table) (key : List ℕ) →
+    ¬ ((table ≡ table_of kind) × (key_in kind line ≡ Some key)) → line_with table key (step gaz kind line) ≡ line_with table key gaz
+
+-- A step with a line that isn't a delete puts it at its key.
+abbrev pub StepPuts : Type 0
+StepPuts = (gaz : Gazetteer) (kind : Kind) (line key : List ℕ) →
+    is_delete kind ≡ false → key_in kind line ≡ Some key → line_with (table_of kind) key (step gaz kind line) ≡ Some line
+
+-- A step with a delete leaves no line at its key.
+abbrev pub StepTakesOut : Type 0
+StepTakesOut = (gaz : Gazetteer) (kind : Kind) (line key : List ℕ) →
+    is_delete kind ≡ true → key_in kind line ≡ Some key → line_with (table_of kind) key (step gaz kind line) ≡ None
+
+-- how many lines are read of all files
+abbrev pub line_count : List File → ℕ
+line_count files = sum_by (λ file. length (lines_within file.bytes)) files
+
+-- The part of more lines than there are is the fold.
+abbrev pub PartIsFold : Type 0
+PartIsFold = (gaz : Gazetteer) (files : List File) (n : ℕ) → line_count files < n → part gaz files n ≡ fold gaz files
+
+-- To fold files behind others is to fold those first and then these.
+abbrev pub FoldsAppend : Type 0
+FoldsAppend = (gaz : Gazetteer) (files more : List File) → fold gaz (files ++ more) ≡ (fold gaz files >>= λ new. fold new more)

@@ -1,0 +1,7 @@
+pub mod Gazetteer
+pub mod Fold
+pub mod Load
+pub mod Laws
+pub mod Places
+pub mod Entries
+pub mod Faults

@@ -1,0 +1,32 @@
+//! What holds of every step, fold, load and day. To call one of these is to know it; none does anything.
+ghost use Rattle.gaz_plain.specs.Laws.{FoldKeeps, PartKeeps, LoadGives, DayGives, DayTwice, StepLeavesOthers, StepPuts, StepTakesOut, PartIsFold, FoldsAppend};
+
+/// What a fold, a part of one, a load and a day make is a gazetteer with the date that they were for.
+pub fn keeps_gazetteers()
+    ensures fold { FoldKeeps }
+    ensures part { PartKeeps }
+    ensures load { LoadGives }
+    ensures day { DayGives }
+{}
+
+/// A day is accepted once.
+pub fn day_twice()
+    ensures { DayTwice }
+{}
+
+/// A step puts its row at its key or takes out the one that is there, and leaves the lines of all other keys.
+pub fn steps_by_key()
+    ensures others { StepLeavesOthers }
+    ensures puts { StepPuts }
+    ensures takes_out { StepTakesOut }
+{}
+
+/// A part that doesn't stop is the whole.
+pub fn part_is_fold()
+    ensures { PartIsFold }
+{}
+
+/// Files can be folded one after another.
+pub fn folds_append()
+    ensures { FoldsAppend }
+{}

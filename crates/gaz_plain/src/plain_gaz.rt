@@ -1,0 +1,169 @@
+//! The gazetteer that is stepped on plain lists.
+ghost use Rattle.std.specs.Prelude.{◌≡◌, ◌∷◌, [], IsSome, IsTrue, IfOk, IfErr, OnOk, OnErr, Ok};
+ghost use Rattle.std.specs.Option.{option_copied};
+ghost use Rattle.gaz_num.specs.declared.words.Table.TheVariants.{Rows};
+ghost use Rattle.gaz_plain.specs.Gazetteer.{empty, dated, is_one_line, line_with, after_line, IsLine, IsGazetteer};
+ghost use Rattle.gaz_plain.specs.Places.{IsIdOf};
+ghost use Rattle.gaz_plain.specs.Faults.{IsFaultOf};
+
+use crate::check_delete;
+use crate::row_list::{PutFault, RowList};
+use gaz_num::{Day, Kind, Reason, Table};
+use gaz_row::check_row;
+use std::alloc::{AllocError, Global};
+use std::marker::Model;
+
+/// Why a line isn't stepped in.
+#[derive(Clone, Copy, Debug, PartialEq, Eq)]
+pub enum PlainFault {
+    /// The check of its kind has this reason against it.
+    Malformed(Reason),
+    /// After it the table would have more lines than it may.
+    Full(Table),
+    /// Memory was wanting.
+    Memory,
+}
+
+impl From<PutFault> for PlainFault {
+    ghost use Rattle.std.specs.Prelude.{◌≡◌};
+    ghost use Rattle.gaz_plain.specs.Faults.{fault_of};
+
+    ghost from_gives = { λ cause fault. fault ≡ fault_of cause };
+
+    fn from(cause: PutFault) -> PlainFault {
+        match cause {
+            PutFault::Full => PlainFault::Full(Table::Rows),
+            PutFault::Memory => PlainFault::Memory,
+        }
+    }
+}
+
+/// A gazetteer as plain lists of lines, seen as the `Gazetteer` of the definitions.
+#[derive(Drop)]
+pub struct PlainGaz {
+    date: Option<Day>,
+    rows: RowList,
+}
+
+impl Model for PlainGaz {
+    ghost use Rattle.gaz_plain.specs.Gazetteer.{Gazetteer, IsGazetteer, empty};
+
+    ghost Value = { Gazetteer };
+
+    ghost view = { λ gaz. record empty { date = gaz.date; rows = gaz.rows } };
+
+    ghost invariant = { λ gaz. IsGazetteer (record empty { date = gaz.date; rows = gaz.rows }) };
+}
+
+impl PlainGaz {
+    /// Without a date and without lines.
+    pub fn new(alloc: Global) -> PlainGaz
+        ensures { result ≡ empty }
+    {
+        PlainGaz {
+            date: None,
+            rows: RowList::new(alloc),
+        }
+    }
+
+    /// Takes the line with the key of this one out of its table, and puts this one in its place unless it is a delete.
+    /// A load sets its date before its first line.
+    pub fn step(&mut self, kind: Kind, line: &[u8]) -> Result<(), PlainFault>
+        requires dated { IsSome self.old.date }
+        requires one_line { IsTrue (is_one_line line.now) }
+        ensures ok { OnOk result (after_line self.old kind line.now ≡ Ok self.new) }
+        ensures fault { IfErr result (IsFaultOf (after_line self.old kind line.now)) }
+        ensures refused { OnErr result (self.new ≡ self.old) }
+        ensures date { self.new.date ≡ self.old.date }
+    {
+        match kind {
+            Kind::Row => self.step_row(line),
+            Kind::RowDelete => self.step_delete(line),
+        }
+    }
+
+    /// Checks a row and puts it at its id.
+    fn step_row(&mut self, line: &[u8]) -> Result<(), PlainFault>
+        requires dated { IsSome self.old.date }
+        requires one_line { IsTrue (is_one_line line.now) }
+        ensures ok { OnOk result (after_line self.old Kind.Row line.now ≡ Ok self.new) }
+        ensures fault { IfErr result (IsFaultOf (after_line self.old Kind.Row line.now)) }
+        ensures refused { OnErr result (self.new ≡ self.old) }
+        ensures date { self.new.date ≡ self.old.date }
+    {
+        match check_row(line) {
+            Ok(id) => self.put_row(id, line),
+            Err(reason) => Err(PlainFault::Malformed(reason)),
+        }
+    }
+
+    /// Puts an accepted row at its id.
+    fn put_row(&mut self, id: u32, row: &[u8]) -> Result<(), PlainFault>
+        requires dated { IsSome self.old.date }
+        requires line { IsLine Kind.Row row.now }
+        requires keyed { IsIdOf id row.now }
+        ensures ok { OnOk result (after_line self.old Kind.Row row.now ≡ Ok self.new) }
+        ensures fault { IfErr result (IsFaultOf (after_line self.old Kind.Row row.now)) }
+        ensures refused { OnErr result (self.new ≡ self.old) }
+        ensures date { self.new.date ≡ self.old.date }
+    {
+        self.rows.put(id, row)?;
+        Ok(())
+    }
+
+    /// Checks a delete and takes out the row with its id.
+    fn step_delete(&mut self, line: &[u8]) -> Result<(), PlainFault>
+        requires dated { IsSome self.old.date }
+        ensures ok { OnOk result (after_line self.old Kind.RowDelete line.now ≡ Ok self.new) }
+        ensures fault { IfErr result (IsFaultOf (after_line self.old Kind.RowDelete line.now)) }
+        ensures refused { OnErr result (self.new ≡ self.old) }
+        ensures date { self.new.date ≡ self.old.date }
+    {
+        match check_delete(line) {
+            Ok(id) => {
+                self.rows.take_out(id);
+                Ok(())
+            }
+            Err(reason) => Err(PlainFault::Malformed(reason)),
+        }
+    }
+
+    /// Sets the date, over the one that there is.
+    pub fn set_date(&mut self, day: Day)
+        ensures { self.new ≡ dated self.old day }
+    {
+        self.date = Some(day);
+    }
+
+    /// The date of the last load or day.
+    pub fn date(&self) -> Option<Day>
+        ensures { result ≡ self.now.date }
+    {
+        self.date
+    }
+
+    /// The row with the id, if there is one.
+    pub fn get(&self, id: u32) -> Option<&[u8]>
+        ensures { option_copied result ≡ line_with Rows (id ∷ []) self.now }
+    {
+        self.rows.get(id)
+    }
+
+    /// An equal one, whose steps leave this one. A day is folded on a copy.
+    pub fn copy(&self) -> Result<PlainGaz, AllocError>
+        ensures { IfOk result (λ copied. copied ≡ self.now) }
+    {
+        let rows = self.rows.copy()?;
+        Ok(PlainGaz {
+            date: self.date,
+            rows,
+        })
+    }
+
+    /// What it stands for is a gazetteer. To call it is to know it.
+    pub fn is_gazetteer(&self)
+        ensures { IsGazetteer self.now }
+    {
+        let _date = self.date;
+    }
+}

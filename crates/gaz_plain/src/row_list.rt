@@ -1,0 +1,163 @@
+//! Rows in the order of their ids.
+use std::alloc::{AllocError, Global};
+use std::marker::Model;
+
+/// Rows in the longest list.
+const LIMIT: usize = 33_554_432;
+
+/// A row and its id.
+#[derive(Drop)]
+pub(crate) struct Entry {
+    id: u32,
+    line: Vec<u8>,
+    ghost keyed: { IsIdOf id line.items },
+}
+
+ghost use Rattle.gaz_plain.specs.Places.{IsIdOf};
+
+impl Entry {
+    ghost use Rattle.std.specs.Prelude.{◌≡◌, IfOk};
+
+    fn new(alloc: Global, id: u32, row: &[u8]) -> Result<Entry, AllocError>
+        requires { IsIdOf id row.now }
+        ensures { IfOk result (λ entry. (entry.id ≡ id) × (entry.line.items ≡ row.now)) }
+    {
+        let line = Vec::from_slice(alloc, row)?;
+        Ok(Entry { id, line })
+    }
+}
+
+/// Why a row isn't put in.
+#[derive(Clone, Copy, Debug, PartialEq, Eq)]
+pub(crate) enum PutFault {
+    Full,
+    Memory,
+}
+
+impl From<AllocError> for PutFault {
+    ghost use Rattle.std.specs.Prelude.{◌≡◌};
+    ghost use Rattle.gaz_plain.specs.declared.row_list.PutFault.TheVariants.{Memory};
+
+    ghost from_gives = { λ _ fault. fault ≡ Memory };
+
+    fn from(_error: AllocError) -> PutFault {
+        PutFault::Memory
+    }
+}
+
+/// Rows, seen as the list of their lines. A place is found by halving, and a row behind all others moves none.
+#[derive(Drop)]
+pub(crate) struct RowList {
+    entries: Vec<Entry>,
+}
+
+impl Model for RowList {
+    ghost use Rattle.std.specs.Prelude.{List, ℕ};
+
+    ghost Value = { List (List ℕ) };
+
+    ghost use Rattle.gaz_plain.specs.Entries.{rows_of, AreInOrder};
+
+    ghost view = { λ rows. rows_of rows.entries.items };
+
+    ghost invariant = { λ rows. AreInOrder (rows_of rows.entries.items) };
+}
+
+impl RowList {
+    ghost use Rattle.std.specs.Prelude.{◌≡◌, ◌<◌, ◌≤◌, [], ◌∷◌, length, IfOk, IfErr, OnOk, OnErr};
+    ghost use Rattle.std.specs.Option.{option_copied};
+    ghost use Rattle.gaz_num.specs.declared.words.Table.TheVariants.{Rows};
+    ghost use Rattle.gaz_plain.specs.Gazetteer.{limit_of, line_at, replaced};
+    ghost use Rattle.gaz_plain.specs.Places.{IsIdOf, IsPlaceOf, IsGapFor};
+
+    pub fn new(alloc: Global) -> RowList
+        ensures { result ≡ [] }
+    {
+        RowList {
+            entries: Vec::new(alloc),
+        }
+    }
+
+    /// Where the row with the id stands, or would stand.
+    fn place_of(&self, id: u32) -> Result<usize, usize>
+        ensures found { IfOk result (IsPlaceOf id self.now) }
+        ensures absent { IfErr result (IsGapFor id self.now) }
+    {
+        self.entries.binary_search_by_key(&id, |entry| entry.id)
+    }
+
+    pub fn get(&self, id: u32) -> Option<&[u8]>
+        ensures { option_copied result ≡ line_at Rows (id ∷ []) self.now }
+    {
+        match self.place_of(id) {
+            Ok(place) => Some(self.entries[place].line.as_slice()),
+            Err(_) => None,
+        }
+    }
+
+    /// Puts the row in the place of the one with its id, or where it would stand.
+    pub fn put(&mut self, id: u32, row: &[u8]) -> Result<(), PutFault>
+        requires { IsIdOf id row.now }
+        ensures ok { OnOk result (self.new ≡ replaced Rows (id ∷ []) (row.now ∷ []) self.old) }
+        ensures within { length self.new ≤ limit_of Rows }
+        ensures full { result ≡ Err PutFault.Full → limit_of Rows < length (replaced Rows (id ∷ []) (row.now ∷ []) self.old) }
+        ensures err { OnErr result (self.new ≡ self.old) }
+    {
+        match self.place_of(id) {
+            Ok(place) => self.write_over(place, id, row)?,
+            Err(_) if self.entries.len() >= LIMIT => return Err(PutFault::Full),
+            Err(place) => self.write_in(place, id, row)?,
+        }
+        Ok(())
+    }
+
+    /// Writes the row over the one with its id.
+    fn write_over(&mut self, place: usize, id: u32, row: &[u8]) -> Result<(), AllocError>
+        requires keyed { IsIdOf id row.now }
+        requires at { IsPlaceOf id self.old place }
+        ensures ok { OnOk result (self.new ≡ replaced Rows (id ∷ []) (row.now ∷ []) self.old) }
+        ensures within { length self.new ≤ limit_of Rows }
+        ensures err { OnErr result (self.new ≡ self.old) }
+    {
+        let alloc = *self.entries.allocator();
+        let entry = Entry::new(alloc, id, row)?;
+        self.entries[place] = entry;
+        Ok(())
+    }
+
+    /// Writes the row into the gap for its id.
+    fn write_in(&mut self, place: usize, id: u32, row: &[u8]) -> Result<(), AllocError>
+        requires keyed { IsIdOf id row.now }
+        requires gap { IsGapFor id self.old place }
+        requires room { length self.old < limit_of Rows }
+        ensures ok { OnOk result (self.new ≡ replaced Rows (id ∷ []) (row.now ∷ []) self.old) }
+        ensures within { length self.new ≤ limit_of Rows }
+        ensures err { OnErr result (self.new ≡ self.old) }
+    {
+        let alloc = *self.entries.allocator();
+        let entry = Entry::new(alloc, id, row)?;
+        self.entries.insert(place, entry)?;
+        Ok(())
+    }
+
+    /// Takes out the row with the id, if there is one.
+    pub fn take_out(&mut self, id: u32)
+        ensures rows { self.new ≡ replaced Rows (id ∷ []) [] self.old }
+        ensures within { length self.new ≤ limit_of Rows }
+    {
+        if let Ok(place) = self.place_of(id) {
+            self.entries.remove(place);
+        }
+    }
+
+    pub fn copy(&self) -> Result<RowList, AllocError>
+        ensures { IfOk result (λ copied. copied ≡ self.now) }
+    {
+        let alloc = *self.entries.allocator();
+        let mut entries = Vec::with_capacity(alloc, self.entries.len())?;
+        for entry in &self.entries {
+            entries.push(Entry::new(alloc, entry.id, &entry.line)?)?;
+        }
+        Ok(RowList { entries })
+    }
+}
