@@ -1,21 +1,14 @@
 //! The check of a line that takes out a place.
 ghost use Rattle.std.specs.Prelude.{◌≡◌, MatchResult, Some, None};
-ghost use Rattle.std.specs.Str.{is_utf8};
 ghost use Rattle.gaz_num.specs.Numbers.{id_in};
 ghost use Rattle.gaz_num.specs.Pieces.{column};
 ghost use Rattle.gaz_num.specs.Check.{reason_against};
 ghost use Rattle.gaz_num.specs.declared.words.Kind.TheVariants.{RowDelete};
 
-use gaz_num::{Reason, field, read_id};
+use gaz_num::{Reason, field, is_text, read_id};
 
 /// Bytes in the longest line.
 const LONGEST: usize = 65_535;
-
-fn is_text(line: &[u8]) -> bool
-    ensures { result ≡ is_utf8 line.now }
-{
-    simdutf8::is_utf8(line)
-}
 
 /// The id in the first column.
 fn first_id(line: &[u8]) -> Option<u32>
