@@ -5,3 +5,4 @@ pub mod Lists
 pub mod Pieces
 pub mod Reading
 pub mod Rests
+pub mod Shelves

@@ -1,7 +1,7 @@
 -- Parts of a buffer, and lists without an LF.
 use Rattle.std.proofs.Common.{◌≡◌, ℕ, zero, suc, ◌+◌, ◌-◌, ◌<◌, ◌≤◌, List, [], ◌∷◌, ◌++◌, length, take, drop, refl, ap, sym, subst, ◌∙◌, arith, eq-eqb, eqb-true, get_or-take, length-take-le, length-drop, Some, None}
 use Rattle.std.specs.Prelude.{slice_range, slice_index}
-use Rattle.std.proofs.lemmas.List.{take_at, drop_at, take-append-le, drop-append-le, drop-take, drop-drop, get_or-drop}
+use Rattle.std.proofs.lemmas.List.{append-nil, take_at, drop_at, take-append-le, drop-append-le, drop-take, drop-drop, get_or-drop}
 use Rattle.std.proofs.lemmas.Slice.{between_is}
 use borrow.Rule.Slice.PartMut.{put_mid, post_of}
 use lib.Seq.{take-add, take-nil}
@@ -24,6 +24,12 @@ grown xs ys start end k n ordered within fits =
     ap (take (end + n - start)) (drop-append-le start (take end xs) after (omega arith))
     ∙ ap (λ j. take j (held ++ after)) sum ∙ take-add (end - start) n (held ++ after)
     ∙ (rw (take_at held after _ len, drop_at held after _ len, take-append-le n ys (post_of end k xs) fits, same) refl)
+
+-- what is held, after a write behind it that doesn't count
+pub untouched : (xs ys : List ℕ) (start end k : ℕ) → start ≤ end → end ≤ length xs → slice_range (put_mid end k xs ys) start end ≡ slice_range xs start end
+untouched xs ys start end k ordered within =
+    let none : end ≡ end + 0 = omega arith in
+    ap (slice_range (put_mid end k xs ys) start) none ∙ grown xs ys start end k 0 ordered within (omega arith) ∙ append-nil (slice_range xs start end)
 
 pub line_append : (xs ys : List ℕ) → IsLine xs → IsLine ys → IsLine (xs ++ ys)
 line_append [] ys front behind = behind

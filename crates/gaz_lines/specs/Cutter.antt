@@ -5,8 +5,9 @@ use Rattle.std.specs.Io.KnownBytes.{prepend_known}
 use Rattle.gaz_outside.specs.Outside.{IsPrefix, RisesOnce}
 use Rattle.gaz_lines.specs.Lines.{IsLine, Rest, rest_of, onto}
 use Rattle.gaz_lines.specs.Window.{items}
+use Rattle.gaz_lines.specs.Files.{place_in}
 use Rattle.gaz_lines.specs.declared.cutter.LineCutter.{LineCutter}
-use Rattle.gaz_lines.specs.declared.cutter.Reads.TheVariants.{Nothing, Source}
+use Rattle.gaz_lines.specs.declared.cutter.Reads.TheVariants.{Nothing, Source, File}
 use Rattle.gaz_lines.specs.declared.fault.LineFault.{LineFault}
 use Rattle.gaz_lines.specs.declared.fault.LineFault.TheVariants.{Failed, TooLong, FileTooLong}
 
@@ -53,6 +54,18 @@ ReadsSource cutter = cutter.reads ≡ Source
 -- It read no file since `new` or the last `restart`.
 abbrev pub MayReadSource : LineCutter → Type 0
 MayReadSource cutter = (cutter.reads ≡ Nothing) ⊎ (cutter.reads ≡ Source)
+
+-- how far the file was read that is read since `new` or the last `restart`
+abbrev pub place_of : LineCutter → ℕ
+place_of cutter = place_in cutter.reads
+
+-- It read the file with this number since `new` or the last `restart`, and no other, and no source.
+abbrev pub ReadsFile : LineCutter → ℕ → Type 0
+ReadsFile cutter file = (at : ℕ) × (cutter.reads ≡ File file at)
+
+-- It read no source and no file with another number since `new` or the last `restart`.
+abbrev pub MayReadFile : LineCutter → ℕ → Type 0
+MayReadFile cutter file = (cutter.reads ≡ Nothing) ⊎ ReadsFile cutter file
 
 -- A line of what is pending goes, with its LF, or at the end, where it isn't empty.
 pub record Cuts (at_end : Type 0) (line : List ℕ) (allowed allowed_now : ℕ) (old new : Option (List ℕ)) : Type 0 where

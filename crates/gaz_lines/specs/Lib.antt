@@ -1,4 +1,5 @@
 pub mod Cutter
+pub mod Files
 pub mod Lines
 pub mod Step
 pub mod Window

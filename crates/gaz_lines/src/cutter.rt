@@ -3,6 +3,8 @@ ghost use Rattle.std.specs.Prelude.{◌≡◌, ◌≤◌, ◌<◌, ◌+◌, ◌�
 ghost use Rattle.std.specs.Borrow.{sem};
 ghost use Rattle.std.specs.Io.BufRead.{Rests};
 ghost use Rattle.gaz_outside.specs.Outside.{left_of};
+ghost use Rattle.gaz_lines.specs.Files.{place_in};
+ghost use Rattle.gaz_lines.specs.Window.{items};
 
 use crate::LineFault;
 use crate::window::{SIZE, Span, Window};
@@ -14,8 +16,8 @@ use std::alloc::{AllocError, Global};
 pub(crate) enum Reads {
     Nothing,
     Source,
-    /// A file with this number, up to this place.
-    File(u64, u64),
+    /// The file with this number, up to this place. It may pass the greatest file limit by a buffer, so it is no u64.
+    File(u64, u128),
 }
 
 /// Cuts lines out of the bytes of a source or a file.
@@ -35,6 +37,7 @@ pub struct LineCutter {
     ghost counted: { number + allowed ≤ file_limit },
     ghost within: { dropped ≤ allowed },
     ghost too_long: { 0 < dropped → line_limit < dropped },
+    ghost placed: { place_in reads + allowed ≤ file_limit + (dropped + length (items window)) },
 }
 
 /// What the cutter makes of what it holds.
@@ -47,7 +50,7 @@ pub(crate) enum Step {
 
 impl LineCutter {
     ghost use Rattle.gaz_lines.specs.Lines.{IsLine};
-    ghost use Rattle.gaz_lines.specs.Window.{items, bytes_at, text_at, has_room};
+    ghost use Rattle.gaz_lines.specs.Window.{bytes_at, text_at, has_room};
     ghost use Rattle.gaz_lines.specs.Cutter.{held, pending, HasEnded, IsPast, ReadsSource, MayReadSource, line_limit_of, file_limit_of, allowed_of, line_of, IsFresh, Gave, Waited, FailedOnce, IfLine, OnFailed, answer_of};
     ghost use Rattle.gaz_lines.specs.declared.fault.LineFault.TheVariants.{FileTooLong};
     ghost use Rattle.gaz_lines.specs.contracts.cutter.LineCutter.{the_row};

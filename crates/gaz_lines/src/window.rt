@@ -1,10 +1,10 @@
 //! The buffer: bytes that were taken and not given yet, and room behind them.
 ghost use Rattle.std.specs.Prelude.{◌≡◌, ◌≤◌, ◌<◌, ◌+◌, ◌-◌, ℕ, List, [], ◌++◌, vec_len, length, take, drop, IfOk, OnErr, IfSome, IsSome, Some, MatchOption, slice_index};
-ghost use Rattle.gaz_outside.specs.Outside.{HasCause, left_of};
+ghost use Rattle.gaz_outside.specs.Outside.{HasCause, SameNumbers, SameFiles, Blames, left_of};
 ghost use Rattle.std.specs.Io.KnownBytes.{prepend_known};
 ghost use Rattle.gaz_lines.specs.Lines.{IsLine};
 
-use gaz_outside::{Failed, Source};
+use gaz_outside::{Failed, Shelf, Source};
 use memchr::memchr;
 use std::alloc::{AllocError, Global};
 
@@ -31,6 +31,7 @@ pub(crate) struct Span {
 
 impl Window {
     ghost use Rattle.gaz_lines.specs.Window.{items, bytes_at, has_room};
+    ghost use Rattle.gaz_lines.specs.Files.{left_at};
 
     pub(crate) fn new(alloc: Global) -> Result<Self, AllocError>
         ensures { IfOk result (λ window. items window ≡ []) }
@@ -128,5 +129,30 @@ impl Window {
         let count = source.take(&mut self.bytes[end..])?;
         self.end = end + count;
         Ok(count)
+    }
+
+    /// Reads the bytes of the file from `at` on behind those that are held, and answers how many.
+    pub(crate) fn read_from<F: Shelf>(&mut self, shelf: &mut F, file: u64, at: u64) -> Result<usize, Failed>
+        requires room { has_room self.old }
+        requires open { IsSome ((F.view shelf.old).opened file) }
+        ensures count { IfOk result (λ n. n ≤ 65536) }
+        ensures ok { IfOk result (λ n. (chunk : List ℕ) × (length chunk ≡ n) × (items self.new ≡ items self.old ++ chunk)
+            × (left_at (F.view shelf.old) file at ≡ prepend_known chunk (left_at (F.view shelf.new) file (at + n)))) }
+        ensures end { IfOk result (λ n. n ≡ 0 → IfSome (left_at (F.view shelf.old) file at) (λ bytes. bytes ≡ [])) }
+        ensures kept { OnErr result (items self.new ≡ items self.old) }
+        ensures unread { OnErr result (left_at (F.view shelf.new) file at ≡ left_at (F.view shelf.old) file at) }
+        ensures numbers { SameNumbers (F.view shelf.old) (F.view shelf.new) }
+        ensures same { SameFiles (F.view shelf.old) (F.view shelf.new) }
+        ensures blames { Blames ((F.view shelf.old).opened file) (F.view shelf.old) (F.view shelf.new) result }
+        ensures cause { HasCause (F.view shelf.old).faults (F.view shelf.new).faults result }
+    {
+        let end = self.end;
+        match shelf.read(file, at, &mut self.bytes[end..]) {
+            Ok(count) => {
+                self.end = end + count;
+                Ok(count)
+            }
+            Err(failed) => Err(failed),
+        }
     }
 }
