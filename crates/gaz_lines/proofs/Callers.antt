@@ -2,8 +2,8 @@
 use Rattle.std.proofs.Common.{◌≡◌, ℕ, ◌<◌, Bool, true, false, cond, List, [], ◌∷◌, length, refl, ap, sym, ◌∙◌, Option, Some, None, arith, unwrap_or, inl, inr}
 use Rattle.std.specs.Prelude.{map, option_map, is_some}
 use Rattle.std.proofs.lemmas.Bool.{cases_lt, false≢true}
-use Rattle.gaz_lines.specs.Lines.{Rest, rest_of, unless_too_long}
-use Rattle.gaz_lines.specs.Cutter.{held, rest, line_limit_of, file_limit_of, IsFresh}
+use Rattle.gaz_lines.specs.Lines.{rest_of, unless_too_long}
+use Rattle.gaz_lines.specs.Cutter.{rest, line_limit_of, file_limit_of, IsFresh}
 use Rattle.gaz_lines.specs.declared.cutter.LineCutter.{LineCutter}
 use Rattle.gaz_num.specs.Pieces.{is_past}
 use Rattle.gaz_lines.proofs.Rests.{prepend_none, not_too_long}

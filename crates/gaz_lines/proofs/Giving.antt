@@ -227,3 +227,6 @@ gave_failed old cutter mid next searched count left now later r step same untake
   line_limit = line_limit ∙ step.3.same.line_limit ∙ r.line_limit;
   file_limit = file_limit ∙ step.3.same.file_limit ∙ r.file_limit;
 }
+
+pub gave_at : (old new : LineCutter) (left now later : Option (List ℕ)) (answer : Result (Option (List ℕ)) LineFault) → now ≡ later → Gave old new left now answer → Gave old new left later answer
+gave_at old new left now later answer same gave = subst (λ o. Gave old new left o answer) same gave

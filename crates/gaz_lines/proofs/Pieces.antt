@@ -130,5 +130,5 @@ either_are false xs ys front behind = behind
 pub lines_are_lines : (limit : ℕ) (text : List ℕ) → AllByRecursion IsLine (lines_up_to limit text)
 lines_are_lines limit text =
     either_are (is_past limit text) (ended_lines (take limit text)) (lines text)
-      (all_but_are (pieces 10 (take limit text)) (pieces_are_lines (take limit text)))
-      (are_more (ended_lines text) (last_if_any (pieces 10 text)) (all_but_are (pieces 10 text) (pieces_are_lines text)) (last_is (pieces 10 text) (pieces_are_lines text)))
+    (all_but_are (pieces 10 (take limit text)) (pieces_are_lines (take limit text)))
+    (are_more (ended_lines text) (last_if_any (pieces 10 text)) (all_but_are (pieces 10 text) (pieces_are_lines text)) (last_is (pieces 10 text) (pieces_are_lines text)))

@@ -1,6 +1,6 @@
 -- What was read of the line at hand, while the source or the file is asked for more.
-use Rattle.std.proofs.Common.{◌≡◌, ◌≢◌, ℕ, zero, suc, ◌+◌, ◌<◌, ◌≤◌, List, [], ◌∷◌, ◌++◌, length, take, refl, ap, arith, ◌∙◌, sym, subst, length-append, append_assoc, Option, inl, inr}
-use Rattle.std.specs.Prelude.{IfSome, option_map}
+use Rattle.std.proofs.Common.{◌≡◌, ◌≢◌, ℕ, zero, suc, ◌+◌, ◌<◌, ◌≤◌, List, [], ◌∷◌, ◌++◌, length, take, refl, ap, arith, ◌∙◌, sym, subst, length-append, append_assoc, Option, inl, inr, Some, None}
+use Rattle.std.specs.Prelude.{IfSome, option_map, Result, Ok, Err}
 use Rattle.std.specs.List.{repeat}
 use Rattle.std.proofs.lemmas.Bool.{false≢true}
 use Rattle.std.specs.Io.KnownBytes.{prepend_known}
@@ -10,9 +10,12 @@ use Rattle.gaz_outside.specs.Outside.{IsPrefix}
 use Rattle.gaz_lines.specs.Lines.{IsLine, rest_of}
 use Rattle.gaz_lines.specs.Window.{items}
 use Rattle.gaz_lines.specs.Cutter.{held, pending, rest, HasEnded, Waited}
-use Rattle.gaz_lines.specs.Step.{Stepped}
+use Rattle.gaz_lines.specs.Step.{Stepped, MadeRoom}
 use Rattle.gaz_lines.specs.declared.cutter.LineCutter.{LineCutter}
-use Rattle.gaz_lines.specs.declared.cutter.Step.TheVariants.{More}
+use Rattle.gaz_lines.specs.declared.window.Span.{Span}
+use Rattle.gaz_lines.specs.declared.fault.LineFault.{LineFault}
+use Rattle.gaz_lines.specs.declared.fault.LineFault.TheVariants.{Failed, TooLong, FileTooLong}
+use Rattle.gaz_lines.specs.declared.cutter.Step.TheVariants.{Done, More}
 use Rattle.gaz_lines.proofs.Lists.{line_append}
 use Rattle.gaz_lines.proofs.Rests.{prepend_two, prepend_none, same_rest}
 
@@ -168,3 +171,23 @@ module _ (old cutter mid : LineCutter) (searched count : ℕ) (left now : Option
       ∙ ap (option_map (rest_of next.line_limit next.allowed)) (sym r.before)
       ∙ ap (λ k. option_map (rest_of k next.allowed) (pending old left)) limit_is
       ∙ ap (λ k. option_map (rest_of old.line_limit k) (pending old left)) allowed_is
+
+-- making room keeps how much of the line at hand was read
+pub room_size : (old new : LineCutter) (count : ℕ) → MadeRoom old new count → new.dropped + length (items new.window) ≡ old.dropped + length (items old.window)
+room_size old new count room = elim room.held [
+  | inl same ↦ omega (arith, ap length same.0, same.1)
+  | inr gone ↦ omega (arith, ap length gone.0, gone.1)
+]
+
+pub still_reads : (cutter new : LineCutter) (result : Result (Option Span) LineFault) → Stepped cutter new (Done result) → new.reads ≡ cutter.reads
+still_reads cutter new (Ok (Some span)) (inl c) = c.4.same.reads
+still_reads cutter new (Ok (Some span)) (inr c) = c.3.same.reads
+still_reads cutter new (Ok None) step = ap (λ c. c.reads) step.0
+still_reads cutter new (Err Failed) (inl c) = c.4.same.reads
+still_reads cutter new (Err Failed) (inr c) = c.3.same.reads
+still_reads cutter new (Err (TooLong n)) (inl c) = c.4.same.reads
+still_reads cutter new (Err (TooLong n)) (inr c) = c.3.same.reads
+still_reads cutter new (Err FileTooLong) step = ap (λ c. c.reads) step.0
+
+pub reading_at : (old cutter : LineCutter) (searched : ℕ) (left now later : Option (List ℕ)) → now ≡ later → Reading old cutter searched left now → Reading old cutter searched left later
+reading_at old cutter searched left now later same r = subst (Reading old cutter searched left) same r

@@ -1,6 +1,6 @@
 -- What is left of a file, where the shelf tells the same as before.
 use Rattle.std.proofs.Common.{◌≡◌, ℕ, ◌+◌, Bool, true, false, cond, List, ◌++◌, take, drop, refl, ap, sym, ◌∙◌, Option, Some, None}
-use Rattle.std.specs.Prelude.{IfSome, option_map, option_and_then, slice_range}
+use Rattle.std.specs.Prelude.{IfSome, option_map, option_and_then}
 use Rattle.std.specs.Io.KnownBytes.{prepend_known}
 use Rattle.std.proofs.lemmas.List.{take-append-drop, drop-drop}
 use Rattle.gaz_outside.specs.Outside.{ShelfView, SameFiles, SameNumbers, files_of, bytes_of}

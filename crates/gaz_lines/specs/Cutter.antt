@@ -2,7 +2,7 @@
 use Rattle.std.specs.Prelude.{◌≡◌, ℕ, ◌+◌, ◌<◌, ◌≤◌, ◌⊎◌, false, true, List, [], ◌∷◌, ◌++◌, length, take, Option, Some, None, option_map, IfSome, Result, Ok, Err}
 use Rattle.std.specs.List.{repeat}
 use Rattle.std.specs.Io.KnownBytes.{prepend_known}
-use Rattle.gaz_outside.specs.Outside.{IsPrefix, RisesOnce}
+use Rattle.gaz_outside.specs.Outside.{ShelfView, IsPrefix, RisesOnce}
 use Rattle.gaz_lines.specs.Lines.{IsLine, Rest, rest_of, onto}
 use Rattle.gaz_lines.specs.Window.{items}
 use Rattle.gaz_lines.specs.Files.{place_in}
@@ -162,3 +162,8 @@ OnFailed other P = Unit {0}
 abbrev pub FailedOnce : {X : Type 0} → ℕ → ℕ → Result X LineFault → Type 0
 FailedOnce before now (Err Failed) = RisesOnce before now
 FailedOnce before now other = now ≡ before
+
+-- The last fault's name is the file's where the call failed, and else the one before.
+abbrev pub BlamesFile : {X : Type 0} → Option (List ℕ) → ShelfView → ShelfView → Result X LineFault → Type 0
+BlamesFile name old new (Err Failed) = new.last_fault ≡ name
+BlamesFile name old new other = new.last_fault ≡ old.last_fault

@@ -1,14 +1,14 @@
 //! The cutter, without what it reads: it finds lines in what it holds.
-ghost use Rattle.std.specs.Prelude.{◌≡◌, ◌≤◌, ◌<◌, ◌+◌, ◌⊎◌, [], length, take, IfOk, IfSome, IsSome, Err};
+ghost use Rattle.std.specs.Prelude.{◌≡◌, ◌≤◌, ◌<◌, ◌^◌, ◌+◌, ◌⊎◌, [], length, take, IfOk, IfSome, IsSome, Err};
 ghost use Rattle.std.specs.Borrow.{sem};
 ghost use Rattle.std.specs.Io.BufRead.{Rests};
-ghost use Rattle.gaz_outside.specs.Outside.{left_of};
-ghost use Rattle.gaz_lines.specs.Files.{place_in};
+ghost use Rattle.gaz_outside.specs.Outside.{SameFiles, SameNumbers, left_of};
+ghost use Rattle.gaz_lines.specs.Files.{place_in, left_at};
 ghost use Rattle.gaz_lines.specs.Window.{items};
 
 use crate::LineFault;
 use crate::window::{SIZE, Span, Window};
-use gaz_outside::{Failed, Source};
+use gaz_outside::{Failed, Shelf, Source};
 use std::alloc::{AllocError, Global};
 
 /// What was read since `new` or the last `restart`.
@@ -34,6 +34,7 @@ pub struct LineCutter {
     line_limit: u32,
     file_limit: u64,
     ghost line_fits: { line_limit ≤ 65535 },
+    ghost file_fits: { file_limit < 2 ^ 64 },
     ghost counted: { number + allowed ≤ file_limit },
     ghost within: { dropped ≤ allowed },
     ghost too_long: { 0 < dropped → line_limit < dropped },
@@ -51,7 +52,7 @@ pub(crate) enum Step {
 impl LineCutter {
     ghost use Rattle.gaz_lines.specs.Lines.{IsLine};
     ghost use Rattle.gaz_lines.specs.Window.{bytes_at, text_at, has_room};
-    ghost use Rattle.gaz_lines.specs.Cutter.{held, pending, HasEnded, IsPast, ReadsSource, MayReadSource, line_limit_of, file_limit_of, allowed_of, line_of, IsFresh, Gave, Waited, FailedOnce, IfLine, OnFailed, answer_of};
+    ghost use Rattle.gaz_lines.specs.Cutter.{held, pending, HasEnded, IsPast, ReadsSource, MayReadSource, line_limit_of, file_limit_of, allowed_of, line_of, place_of, ReadsFile, MayReadFile, BlamesFile, IsFresh, Gave, Waited, FailedOnce, IfLine, OnFailed, answer_of};
     ghost use Rattle.gaz_lines.specs.declared.fault.LineFault.TheVariants.{FileTooLong};
     ghost use Rattle.gaz_lines.specs.contracts.cutter.LineCutter.{the_row};
     ghost use Rattle.gaz_lines.specs.Step.{SameBut, CutOff, Stepped, MadeRoom};
@@ -202,6 +203,86 @@ impl LineCutter {
         ensures cause { FailedOnce (S.view source.old).faults (S.view source.new).faults result }
     {
         match self.find_in(source) {
+            Ok(Some(span)) => Ok(Some(self.window.shown(span))),
+            Ok(None) => Ok(None),
+            Err(fault) => Err(fault),
+        }
+    }
+
+    /// How far the file was read.
+    fn place(&self) -> u128
+        ensures { result ≡ place_of self.now }
+    {
+        match self.reads {
+            Reads::File(_, at) => at,
+            _ => 0,
+        }
+    }
+
+    /// Finds the next line, and reads the file only where none is held.
+    fn find_in_file<F: Shelf>(
+        &mut self,
+        shelf: &mut F,
+        file: u64,
+    ) -> Result<Option<Span>, LineFault>
+        requires reads { MayReadFile self.old file }
+        requires open { IsSome ((F.view shelf.old).opened file) }
+        requires ended { HasEnded self.old → IfSome (left_at (F.view shelf.old) file (place_of self.old)) (λ bytes. bytes ≡ []) }
+        ensures gave { Gave self.old self.new (left_at (F.view shelf.old) file (place_of self.old)) (left_at (F.view shelf.new) file (place_of self.new)) (answer_of (text_at self.new.window) result) }
+        ensures stands { IfLine (λ span. IsSome (bytes_at self.new.window span)) result }
+        ensures reads { ReadsFile self.new file }
+        ensures waits { (shelf.new ≡ shelf.old)
+            ⊎ Waited self.old.allowed 65536 (held self.old) (pending self.old (left_at (F.view shelf.old) file (place_of self.old))) (left_at (F.view shelf.new) file (place_of self.new)) }
+        ensures waits_in_vain { OnFailed result (Waited self.old.allowed 0 (held self.old) (pending self.old (left_at (F.view shelf.old) file (place_of self.old))) (left_at (F.view shelf.new) file (place_of self.new))) }
+        ensures past { IsPast self.old → result ≡ Err FileTooLong }
+        ensures rests { HasEnded self.old → (shelf.new ≡ shelf.old) × OnFailed result ⊥ }
+        ensures same { SameFiles (F.view shelf.old) (F.view shelf.new) }
+        ensures numbers { SameNumbers (F.view shelf.old) (F.view shelf.new) }
+        ensures blames { BlamesFile ((F.view shelf.old).opened file) (F.view shelf.old) (F.view shelf.new) result }
+        ensures cause { FailedOnce (F.view shelf.old).faults (F.view shelf.new).faults result }
+    {
+        self.reads = Reads::File(file, self.place());
+        let mut searched = 0;
+        loop {
+            match self.step(searched) {
+                Step::Done(result) => return result,
+                Step::More(count) => searched = count,
+            }
+            let at = self.place();
+            match self.window.read_from(shelf, file, at as u64) {
+                Ok(count) => {
+                    self.ended = count == 0;
+                    self.reads = Reads::File(file, at + count as u128);
+                }
+                Err(Failed) => return Err(LineFault::Failed),
+            }
+        }
+    }
+
+    /// The next line of the open file, borrowed from the buffer, or none at the end. The file is to be the one that was read
+    /// since `new` or the last `restart`.
+    pub fn next_shelf<F: Shelf>(
+        &mut self,
+        shelf: &mut F,
+        file: u64,
+    ) -> Result<Option<&[u8]>, LineFault>
+        requires reads { MayReadFile self.old file }
+        requires open { IsSome ((F.view shelf.old).opened file) }
+        requires ended { HasEnded self.old → IfSome (left_at (F.view shelf.old) file (place_of self.old)) (λ bytes. bytes ≡ []) }
+        ensures* after_borrow { sem 𝓛 (Rests the_row self.entry (λ new.
+            Gave self.old new (left_at (F.view shelf.old) file (place_of self.old)) (left_at (F.view shelf.new) file (place_of new)) (answer_of (λ line. line.now) result)
+            × ReadsFile new file
+            × ((shelf.new ≡ shelf.old)
+            ⊎ Waited (allowed_of self.old) 65536 (held self.old) (pending self.old (left_at (F.view shelf.old) file (place_of self.old))) (left_at (F.view shelf.new) file (place_of new))))) }
+        ensures line { IfLine (λ line. IsLine line.now × (length line.now ≤ line_limit_of self.old)) result }
+        ensures past { IsPast self.old → result ≡ Err FileTooLong }
+        ensures rests { HasEnded self.old → (shelf.new ≡ shelf.old) × OnFailed result ⊥ }
+        ensures same { SameFiles (F.view shelf.old) (F.view shelf.new) }
+        ensures numbers { SameNumbers (F.view shelf.old) (F.view shelf.new) }
+        ensures blames { BlamesFile ((F.view shelf.old).opened file) (F.view shelf.old) (F.view shelf.new) result }
+        ensures cause { FailedOnce (F.view shelf.old).faults (F.view shelf.new).faults result }
+    {
+        match self.find_in_file(shelf, file) {
             Ok(Some(span)) => Ok(Some(self.window.shown(span))),
             Ok(None) => Ok(None),
             Err(fault) => Err(fault),

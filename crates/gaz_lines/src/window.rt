@@ -132,7 +132,12 @@ impl Window {
     }
 
     /// Reads the bytes of the file from `at` on behind those that are held, and answers how many.
-    pub(crate) fn read_from<F: Shelf>(&mut self, shelf: &mut F, file: u64, at: u64) -> Result<usize, Failed>
+    pub(crate) fn read_from<F: Shelf>(
+        &mut self,
+        shelf: &mut F,
+        file: u64,
+        at: u64,
+    ) -> Result<usize, Failed>
         requires room { has_room self.old }
         requires open { IsSome ((F.view shelf.old).opened file) }
         ensures count { IfOk result (λ n. n ≤ 65536) }
