@@ -60,7 +60,8 @@ fn read_decimal(text: &[u8]) -> Option<u64>
 }
 
 /// A coordinate in units of 10^-12 degree, at most `max` degrees in size: an optional minus, 1 to 3 digits, and then
-/// nothing, or a point and 1 to 12 digits.
+/// nothing, or a point and 1 to 12 digits. The export's readme asks for decimal degrees; this form of them, with no
+/// exponent and no plus, is this project's own.
 pub fn read_degrees(text: &[u8], max: u8) -> Option<i64>
     ensures { result ≡ degrees_in max text.now }
 {

@@ -1,5 +1,5 @@
 -- What the check of a row says of a line that it accepts.
-use Rattle.std.proofs.Common.{◌≡◌, ℕ, zero, suc, ◌+◌, ◌<◌, Bool, true, false, List, [], ◌∷◌, length, drop, get_or, refl, sym, ◌∙◌, ap, subst, arith, eqb-true, Option, None, Result, Ok, Err, unwrap_or, inl, inr}
+use Rattle.std.proofs.Common.{◌-◌, ◌≡◌, ℕ, zero, suc, ◌+◌, ◌<◌, Bool, true, false, List, [], ◌∷◌, length, drop, get_or, refl, sym, ◌∙◌, ap, subst, arith, eqb-true, Option, None, Result, Ok, Err, unwrap_or, inl, inr}
 use Rattle.std.specs.Prelude.{◌==◌, nat_le, is_some, IsSome, IsOk, IsUtf8, MatchResult, slice_get}
 use Rattle.std.specs.Str.{is_utf8}
 use Rattle.std.specs.List.{position_or_len, before_first, after_first}
@@ -72,10 +72,8 @@ column_is_text (suc n) line text = elim (cases_lt (position_or_len is_tab line) 
 ]
 
 -- so is one of an accepted line
-pub accepted_column : (line : List ℕ) (place : ℕ) → reason_against Row line ≡ None → IsUtf8 (column (place + 1) line)
-accepted_column line place is =
-    subst (λ (n : ℕ). IsUtf8 (unwrap_or (slice_get (fields line) n) [])) (omega arith)
-    (column_is_text place line (IsUtf8-from_is_utf8 line (accepted line is).utf8))
+pub accepted_column : (line : List ℕ) (number : ℕ) → reason_against Row line ≡ None → IsUtf8 (column number line)
+accepted_column line number is = column_is_text (number - 1) line (IsUtf8-from_is_utf8 line (accepted line is).utf8)
 
 pub ok_of : {T E : Type 0} → (read : Result T E) (P : T → Type 0) (Q : E → Type 0) → MatchResult read P Q → ((fault : E) → Q fault → ⊥) → IsOk read
 ok_of (Ok text) P Q is never = refl

@@ -1,5 +1,5 @@
 -- A walk over the columns of a line.
-use Rattle.std.proofs.Common.{◌≡◌, ℕ, zero, suc, ◌+◌, ◌<◌, ◌≤◌, List, [], ◌∷◌, ◌++◌, map, length, take, set, refl, ap, arith, ◌∙◌, sym, append_assoc, length-append, Bor, subst, get_or, unwrap_or}
+use Rattle.std.proofs.Common.{◌-◌, ◌≡◌, ℕ, zero, suc, ◌+◌, ◌<◌, ◌≤◌, List, [], ◌∷◌, ◌++◌, map, length, take, set, refl, ap, arith, ◌∙◌, sym, append_assoc, length-append, Bor, subst, get_or, unwrap_or}
 use Rattle.std.specs.Prelude.{slice_get}
 use Rattle.std.proofs.lemmas.List.{take_more_set, map-append, length-map, length-take-le}
 use Rattle.std.proofs.Math.Seq.{take-length}
@@ -82,9 +82,8 @@ at [] place other below = absurd (omega (arith, below))
 at (text ∷ texts) zero other below = refl
 at (text ∷ texts) (suc place) other below = at texts place other (omega (arith, below))
 
--- the text at a place is that column
-pub text_is_column : (texts : List (Bor (List ℕ))) (place : ℕ) (other : Bor (List ℕ)) (line : List ℕ) → place < length texts → shown texts ≡ fields line → (get_or texts place other).now ≡ column (place + 1) line
-text_is_column texts place other line below is =
-    at texts place other below
-    ∙ ap (λ (all : List (List ℕ)). unwrap_or (slice_get all place) []) is
-    ∙ ap (λ (n : ℕ). unwrap_or (slice_get (fields line) n) []) (omega arith)
+-- the text of a number is that column
+pub text_is_column : (texts : List (Bor (List ℕ))) (number : ℕ) (other : Bor (List ℕ)) (line : List ℕ) → number - 1 < length texts → shown texts ≡ fields line → (get_or texts (number - 1) other).now ≡ column number line
+text_is_column texts number other line below is =
+    at texts (number - 1) other below
+    ∙ ap (λ (all : List (List ℕ)). unwrap_or (slice_get all (number - 1)) []) is

@@ -1,5 +1,5 @@
 //! The columns of a row.
-ghost use Rattle.std.specs.Prelude.{◌≡◌, ◌↔◌, ◌<◌, ◌+◌, length, map, IsSome, IfSome};
+ghost use Rattle.std.specs.Prelude.{◌≡◌, ◌↔◌, ◌≤◌, length, map, IsSome, IfSome};
 ghost use Rattle.gaz_num.specs.Pieces.{fields, column};
 
 use gaz_num::split_column;
@@ -48,11 +48,12 @@ impl<'a> Columns<'a> {
         self.line
     }
 
-    /// The column at a place from 0.
-    pub fn text(&self, place: usize) -> &'a [u8]
-        requires { place < 19 }
-        ensures { result.now ≡ column (place + 1) self.now.line.now }
+    /// The column of a number from 1 to 19.
+    pub fn text(&self, number: usize) -> &'a [u8]
+        requires low { 1 ≤ number }
+        requires high { number ≤ 19 }
+        ensures { result.now ≡ column number self.now.line.now }
     {
-        self.texts[place]
+        self.texts[number - 1]
     }
 }

@@ -1,5 +1,5 @@
 //! A row whose columns can be asked for.
-ghost use Rattle.std.specs.Prelude.{◌≡◌, ◌≤◌, ◌<◌, ◌+◌, List, ℕ, Some, None};
+ghost use Rattle.std.specs.Prelude.{◌≡◌, ◌≤◌, ◌+◌, List, ℕ, Some, None};
 ghost use Rattle.gaz_num.specs.Numbers.{id_in, degrees_in};
 ghost use Rattle.gaz_num.specs.Pieces.{column};
 ghost use Rattle.gaz_num.specs.Check.{reason_against};
@@ -47,64 +47,65 @@ impl<'a> Row<'a> {
     pub fn id(&self) -> u32
         ensures { id_in (column 1 self.now) ≡ Some result }
     {
-        read_id(self.columns.text(0)).unwrap()
+        read_id(self.columns.text(1)).unwrap()
     }
 
-    /// The text of the column at a place from 0.
-    fn text(&self, place: usize) -> &'a str
-        requires { place < 19 }
-        ensures { result.now ≡ column (place + 1) self.now }
+    /// The text of the column of a number from 1 to 19.
+    fn text(&self, number: usize) -> &'a str
+        requires low { 1 ≤ number }
+        requires high { number ≤ 19 }
+        ensures { result.now ≡ column number self.now }
     {
-        str::from_utf8(self.columns.text(place)).unwrap()
+        str::from_utf8(self.columns.text(number)).unwrap()
     }
 
     /// The name, column 2.
     pub fn name(&self) -> &'a str
         ensures { result.now ≡ column 2 self.now }
     {
-        self.text(1)
+        self.text(2)
     }
 
     /// The name in ASCII, column 3.
     pub fn ascii(&self) -> &'a str
         ensures { result.now ≡ column 3 self.now }
     {
-        self.text(2)
+        self.text(3)
     }
 
     /// The latitude, column 5, in units of 10^-12 degree.
     pub fn latitude(&self) -> i64
         ensures { degrees_in 90 (column 5 self.now) ≡ Some result }
     {
-        read_degrees(self.columns.text(4), LATITUDES).unwrap()
+        read_degrees(self.columns.text(5), LATITUDES).unwrap()
     }
 
     /// The longitude, column 6, in units of 10^-12 degree.
     pub fn longitude(&self) -> i64
         ensures { degrees_in 180 (column 6 self.now) ≡ Some result }
     {
-        read_degrees(self.columns.text(5), LONGITUDES).unwrap()
+        read_degrees(self.columns.text(6), LONGITUDES).unwrap()
     }
 
     /// The feature class, column 7.
     pub fn class(&self) -> &'a str
         ensures { result.now ≡ column 7 self.now }
     {
-        self.text(6)
+        self.text(7)
     }
 
     /// The feature code, column 8.
     pub fn code(&self) -> &'a str
         ensures { result.now ≡ column 8 self.now }
     {
-        self.text(7)
+        self.text(8)
     }
 
     /// The country code, column 9.
     pub fn country(&self) -> &'a str
         ensures { result.now ≡ column 9 self.now }
     {
-        self.text(8)
+        self.text(9)
     }
 
     /// The code of the admin division of a level from 1 to 4, columns 11 to 14.
@@ -113,13 +114,13 @@ impl<'a> Row<'a> {
         requires high { level ≤ 4 }
         ensures { result.now ≡ column (10 + level) self.now }
     {
-        self.text(9 + level as usize)
+        self.text(10 + level as usize)
     }
 
     /// The population, column 15, and 0 where that is empty.
     pub fn population(&self) -> i64
         ensures { result ≡ population_of self.now }
     {
-        read_i64(self.columns.text(14)).unwrap_or(0)
+        read_i64(self.columns.text(15)).unwrap_or(0)
     }
 }
