@@ -1,5 +1,5 @@
 -- Worked lines, loads and days, each by computation.
-use Rattle.std.proofs.Common.{◌≡◌, ℕ, ◌++◌, List, [], ◌∷◌, refl, Option, Some, None}
+use Rattle.std.proofs.Common.{◌≡◌, ℕ, ◌++◌, List, [], ◌∷◌, refl, Some, None}
 use Rattle.std.specs.Prelude.{codes, if◌then◌else◌, Ok, Err}
 use Rattle.std.specs.Str.{is_utf8, chars, bytes_eq}
 use Rattle.std.specs.Fmt.{digits}
@@ -11,7 +11,7 @@ use Rattle.gaz_num.specs.declared.words.Table.TheVariants as table
 use Rattle.gaz_num.specs.declared.words.FileName.TheVariants as file
 use Rattle.gaz_num.specs.declared.words.Reason.TheVariants as reason
 use Rattle.gaz_plain.specs.Gazetteer.{Gazetteer, empty, dated, step, line_with, after_line}
-use Rattle.gaz_plain.specs.Fold.{File, part}
+use Rattle.gaz_plain.specs.Fold.{part}
 use Rattle.gaz_plain.specs.Load.{Files, load, day}
 
 -- a row of an id, a name and a population

@@ -1,7 +1,7 @@
 -- What a search for an id among entries finds, and what an edit at that place leaves.
-use Rattle.std.proofs.Common.{◌≡◌, ◌≢◌, ℕ, zero, suc, ◌+◌, ◌-◌, ◌<◌, ◌≤◌, Bool, true, false, List, [], ◌∷◌, ◌++◌, length, get_or, set, take, drop, map, filter, Option, Some, None, Result, Ok, Err, IfOk, IfErr, refl, sym, ap, subst, inl, inr, ◌∙◌, arith}
+use Rattle.std.proofs.Common.{◌≡◌, ◌≢◌, ℕ, zero, suc, ◌<◌, ◌≤◌, Bool, true, false, List, [], ◌∷◌, length, get_or, take, drop, map, filter, None, Result, Ok, Err, IfOk, IfErr, refl, sym, ap, inl, inr, ◌∙◌, arith}
 use Rattle.std.specs.Prelude.{slice_get, vec_items, unwrap_or}
-use Rattle.std.specs.List.{AllPairs, find, insert, remove}
+use Rattle.std.specs.List.{find}
 use Rattle.std.specs.List.Sorted.{IsSearchInRange, IsBinarySearchResult, IsNonDecreasingBy}
 use Rattle.std.specs.Ordering.{nat_cmp, ordering_index, ordering_then, is_lt, is_gt, is_eq}
 use Rattle.std.specs.declared.cmp.Ordering.{Ordering}
@@ -13,7 +13,7 @@ use Rattle.std.proofs.Math.ListN.{get_or-map}
 use Rattle.std.proofs.lemmas.List.{length-map}
 use Rattle.gaz_num.specs.declared.words.Table.TheVariants.{Rows}
 use Rattle.gaz_plain.specs.declared.row_list.Entry.{Entry}
-use Rattle.gaz_plain.specs.Gazetteer.{key_of, key_cmp, KeysRise, line_at, replaced}
+use Rattle.gaz_plain.specs.Gazetteer.{key_of, key_cmp}
 use Rattle.gaz_plain.specs.Places.{IsPlaceOf, IsGapFor}
 use Rattle.gaz_plain.specs.Entries.{rows_of, AreInOrder}
 

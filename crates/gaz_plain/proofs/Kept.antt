@@ -1,8 +1,7 @@
 -- A line that is taken, a load and a day make gazetteers of gazetteers.
-use Rattle.std.proofs.Common.{◌≡◌, ℕ, suc, ◌<◌, ◌≤◌, Bool, true, false, eqb, List, [], ◌∷◌, length, Option, Some, None, Result, Ok, Err, IfOk, IsSome, IsTrue, refl, sym, ap, subst, ◌∙◌, arith}
+use Rattle.std.proofs.Common.{◌≡◌, ℕ, suc, ◌≤◌, Bool, true, false, eqb, List, [], ◌∷◌, length, Option, Some, None, Result, Ok, Err, IfOk, IsSome, refl, sym, ap, subst, ◌∙◌, arith}
 use mathlib.Core.Bool.{true≢false}
 use Rattle.std.specs.Prelude.{if◌then◌else◌, nat_lt, is_some}
-use Rattle.std.specs.List.{All, AllPairs}
 use Rattle.std.proofs.lemmas.Bool.Decides.{nat_tests}
 use Rattle.std.proofs.lemmas.List.Elements.{All-nil, All-cons}
 use Rattle.gaz_num.specs.declared.words.Kind.{Kind}
@@ -12,7 +11,7 @@ use Rattle.gaz_num.specs.declared.words.Table.TheVariants.{Rows}
 use Rattle.gaz_num.specs.declared.words.Reason.{Reason}
 use Rattle.gaz_num.specs.Check.{reason_against, key_in}
 use Rattle.gaz_num.specs.Refusal.{Refusal, sequence, ◌>>=◌}
-use Rattle.gaz_plain.specs.Gazetteer.{Gazetteer, empty, dated, LineFault, IsLine, IsTable, IsGazetteer, KeysRise, limit_of, lines_in, with_lines, in_tables, key_of, table_of, put_by, replaced, is_one_line, step, step_at, if_within, after_check, after_line}
+use Rattle.gaz_plain.specs.Gazetteer.{Gazetteer, empty, dated, IsLine, IsTable, IsGazetteer, limit_of, lines_in, with_lines, key_of, table_of, replaced, step, step_at, if_within, after_check, after_line}
 use Rattle.gaz_plain.specs.Fold.{File, fold}
 use Rattle.gaz_plain.specs.Load.{Files, load, day, load_files, day_files, files_of, in_sequence}
 use Rattle.gaz_plain.specs.Laws.{IsOf, FoldKeeps, PartKeeps, LoadGives, DayGives, DayTwice}

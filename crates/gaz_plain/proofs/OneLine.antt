@@ -1,7 +1,7 @@
 -- No line of a text has an LF.
-use Rattle.std.proofs.Common.{◌≡◌, ℕ, Bool, true, false, cond, eqb, List, [], ◌∷◌, ◌++◌, IsTrue, not, refl, take, arith}
-use Rattle.std.specs.List.{AllByRecursion, list_any, onto_first}
-use Rattle.gaz_num.specs.Pieces.{pieces, all_but_last, if_any, last_if_any, ended_lines, lines, is_past, lines_up_to, lines_within, text_limit}
+use Rattle.std.proofs.Common.{◌≡◌, ℕ, Bool, true, false, cond, eqb, List, [], ◌∷◌, ◌++◌, IsTrue, refl, take, arith}
+use Rattle.std.specs.List.{AllByRecursion, onto_first}
+use Rattle.gaz_num.specs.Pieces.{pieces, all_but_last, if_any, last_if_any, ended_lines, lines, is_past, lines_within, text_limit}
 use Rattle.gaz_plain.specs.Gazetteer.{is_one_line}
 
 -- none of these lines has an LF

@@ -1,14 +1,12 @@
 -- What a step finds and leaves at keys.
-use Rattle.std.proofs.Common.{◌≡◌, ◌≢◌, ℕ, Bool, true, false, List, [], ◌∷◌, Option, Some, None, refl, sym, ap, ◌∙◌, arith}
+use Rattle.std.proofs.Common.{◌≡◌, ◌≢◌, ℕ, Bool, true, false, List, [], ◌∷◌, Option, Some, None, refl, sym, ap, ◌∙◌}
 use Rattle.std.specs.List.{find}
 use Rattle.std.specs.Ordering.{is_eq}
-use Rattle.gaz_num.specs.declared.words.Kind.{Kind}
 use Rattle.gaz_num.specs.declared.words.Kind.TheVariants.{Row, RowDelete}
-use Rattle.gaz_num.specs.declared.words.Table.{Table}
 use Rattle.gaz_num.specs.declared.words.Table.TheVariants.{Rows}
 use Rattle.gaz_num.specs.Check.{key_in}
 use Rattle.std.specs.Prelude.{unwrap_or}
-use Rattle.gaz_plain.specs.Gazetteer.{Gazetteer, key_of, key_cmp, kind_in, table_of, is_delete, put_by, line_with, replaced, step, step_at, lines_in}
+use Rattle.gaz_plain.specs.Gazetteer.{Gazetteer, key_of, key_cmp, line_with, step_at}
 use Rattle.gaz_plain.specs.Laws.{StepLeavesOthers, StepPuts, StepTakesOut}
 use Rattle.gaz_plain.proofs.KeyOrder.{same_key, key_ties}
 use Rattle.gaz_plain.proofs.Tables.{find-replaced, find-replaced_other}

@@ -1,16 +1,15 @@
 -- What a line leads to, by what its check and its list say.
-use Rattle.std.proofs.Common.{◌≡◌, ℕ, ◌<◌, ◌≤◌, Bool, true, false, List, [], ◌∷◌, length, Option, Some, None, Result, Ok, Err, IsSome, refl, sym, ap, ◌∙◌, arith}
+use Rattle.std.proofs.Common.{◌≡◌, ℕ, ◌<◌, ◌≤◌, true, false, List, [], ◌∷◌, length, Some, None, Result, Ok, Err, IsSome, refl, ap, ◌∙◌, arith}
 use Rattle.std.specs.Prelude.{nat_lt, option_map}
 use Rattle.std.proofs.lemmas.Bool.Decides.{nat_tests}
 use Rattle.gaz_num.specs.declared.words.Kind.{Kind}
 use Rattle.gaz_num.specs.declared.words.Kind.TheVariants.{Row, RowDelete}
-use Rattle.gaz_num.specs.declared.words.Table.{Table}
 use Rattle.gaz_num.specs.declared.words.Table.TheVariants.{Rows}
 use Rattle.gaz_num.specs.declared.words.Reason.{Reason}
 use Rattle.gaz_num.specs.Numbers.{id_in}
 use Rattle.gaz_num.specs.Pieces.{column}
 use Rattle.gaz_num.specs.Check.{reason_against, key_in}
-use Rattle.gaz_plain.specs.Gazetteer.{Gazetteer, LineFault, malformed, full, IsLine, IsGazetteer, limit_of, lines_in, with_lines, table_of, put_by, replaced, step_at, step, if_within, after_check, after_line}
+use Rattle.gaz_plain.specs.Gazetteer.{Gazetteer, LineFault, malformed, full, IsLine, IsGazetteer, limit_of, with_lines, table_of, replaced, step_at, step, if_within, after_check, after_line}
 use Rattle.gaz_plain.specs.Places.{IsIdOf}
 use Rattle.gaz_plain.specs.Laws.{IsOf}
 use Rattle.gaz_plain.specs.declared.row_list.PutFault.{PutFault}

@@ -1,9 +1,9 @@
 -- Where a key stands, or would stand, in a list of rows.
-use Rattle.std.specs.Prelude.{◌≡◌, ℕ, suc, ◌<◌, ◌≤◌, List, [], ◌∷◌, ◌++◌, length, map, take, drop, slice_get, vec_items, AllPairs, Some, None}
+use Rattle.std.specs.Prelude.{◌≡◌, ℕ, suc, ◌<◌, ◌≤◌, List, [], ◌∷◌, ◌++◌, length, take, drop, slice_get, Some, None}
 use Rattle.gaz_num.specs.declared.words.Kind.TheVariants.{Row}
 use Rattle.gaz_num.specs.declared.words.Table.TheVariants.{Rows}
 use Rattle.gaz_num.specs.Check.{key_in}
-use Rattle.gaz_plain.specs.Gazetteer.{limit_of, line_at, replaced}
+use Rattle.gaz_plain.specs.Gazetteer.{line_at, replaced}
 
 -- The id is the key of the row.
 abbrev pub IsIdOf : ℕ → List ℕ → Type 0

@@ -1,7 +1,7 @@
-use Rattle.std.proofs.Common.{subst, sym, ◌≡◌, ◌≤◌, ◌<◌, length, [], ◌∷◌, ap, Err, IsSome, None}
+use Rattle.std.proofs.Common.{subst, sym, ◌≤◌, length, [], ◌∷◌, ap, Err, IsSome}
 use Rattle.std.proofs.lemmas.Result.{err_from_is_err_and}
 use Rattle.gaz_num.specs.declared.words.Table.TheVariants.{Rows}
-use Rattle.gaz_plain.specs.Gazetteer.{Gazetteer, empty, limit_of, replaced, after_line}
+use Rattle.gaz_plain.specs.Gazetteer.{Gazetteer, empty, limit_of, replaced}
 use Rattle.gaz_plain.proofs.Taken.{row_put, row_full, put_is, put_fault}
 use Rattle.gaz_plain.proofs.plain_gaz.PlainGaz.put_row.Goals as goal
 

@@ -1,5 +1,3 @@
-use Rattle.std.proofs.Common.{◌∙◌, ap, subst, sym}
-use Rattle.gaz_plain.specs.Places.{IsPlaceOf}
 use Rattle.gaz_plain.proofs.Edited.{put_over, put_over_in_order}
 use Rattle.gaz_plain.proofs.row_list.RowList.write_over.Goals as goal
 
