@@ -1,5 +1,6 @@
 //! Days of the calendar and their texts.
 ghost use Rattle.std.specs.Prelude.{◌≡◌, ◌≤◌, ◌<◌, ◌^◌, ◌+◌, ℕ, suc, length, Some, IfSome, nat_lt, nat_le};
+ghost use Rattle.std.specs.Str.{IsAscii};
 ghost use Rattle.gaz_num.specs.Numbers.{some_if};
 ghost use Rattle.gaz_num.specs.Dates.{last_day, is_date, day_number, day_of_parts, civil_text, date_text, day_in};
 
@@ -118,7 +119,8 @@ fn write_civil(year: u16, month: u16, day: u16) -> [u8; 10]
     requires year { year < 10 ^ 4 }
     requires month { month < 10 ^ 2 }
     requires day { day < 10 ^ 2 }
-    ensures { result ≡ civil_text (record { year = year; month = month; day = day }) }
+    ensures text { result ≡ civil_text (record { year = year; month = month; day = day }) }
+    ensures ascii { IsAscii result }
 {
     [
         digit(year / 1000),
@@ -138,6 +140,7 @@ fn write_civil(year: u16, month: u16, day: u16) -> [u8; 10]
 pub fn write_date(day: Day) -> [u8; 10]
     ensures text { result ≡ date_text day }
     ensures day { day_in result ≡ Some day }
+    ensures ascii { IsAscii (date_text day) }
 {
     let date = Date::from_days_since_min(day.number + BEFORE);
     write_civil(date.year.unsigned_abs(), date.month as u16, date.day as u16)

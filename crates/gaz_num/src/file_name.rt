@@ -1,5 +1,6 @@
 //! The names of files on the shelf.
-ghost use Rattle.std.specs.Prelude.{◌≡◌, ◌≤◌, ◌+◌, ◌++◌, length, take, drop, codes};
+ghost use Rattle.std.specs.Prelude.{◌≡◌, ◌≤◌, ◌+◌, ◌++◌, length, take, drop, codes, IsUtf8};
+ghost use Rattle.std.specs.Str.{IsAscii};
 ghost use Rattle.gaz_num.specs.Dates.{date_text};
 ghost use Rattle.gaz_num.specs.Words.{file_text};
 
@@ -25,6 +26,7 @@ fn put_daily(out: &mut [u8], front: &[u8], day: Day) -> usize
     ensures size { result ≤ 48 }
     ensures written { take result out.new ≡ front.now ++ date_text day ++ codes ".txt" }
     ensures rest { drop result out.new ≡ drop result out.old }
+    ensures ascii { IsAscii (date_text day) }
 {
     let date = write_date(day);
     let at = put(out, 0, front);
@@ -38,6 +40,7 @@ pub fn write_file_name(name: FileName, out: &mut [u8; 48]) -> usize
     ensures size { result ≤ 48 }
     ensures written { take result out.new ≡ file_text name }
     ensures rest { drop result out.new ≡ drop result out.old }
+    ensures utf8 { IsUtf8 (file_text name) }
 {
     match name {
         FileName::Input => put(out, 0, b"-"),

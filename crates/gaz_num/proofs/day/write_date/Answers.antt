@@ -1,5 +1,6 @@
-use Rattle.std.proofs.Common.{◌≡◌, ℕ, ◌+◌, ◌∙◌, sym, ap, arith, Some, pos, w16, FitsSigned}
+use Rattle.std.proofs.Common.{◌≡◌, ℕ, ◌+◌, ◌∙◌, sym, subst, ap, arith, Some, pos, w16, FitsSigned}
 use Rattle.std.specs.Prelude.{unsigned_abs}
+use Rattle.std.specs.Str.{IsAscii}
 use Rattle.std.proofs.lemmas.Int.{to_z-of_z}
 use Rattle.jiff_core.proofs.SignedLemmas.{signed_arith}
 use Rattle.jiff_core.proofs.CalendarLemmas.{days_in_month_bounds}
@@ -25,12 +26,15 @@ number c = let same = (is_day c).number in omega (arith, same)
 
 pub returns-clause-text : goal.returns-clause-text
 returns-clause-text c =
-    c.write_civil.ensures
+    c.write_civil.ensures.text
     ∙ ap civil_text (sym (date_of-day_number (date c) (is_day c).civil))
     ∙ ap (λ (n : ℕ). civil_text (date_of n)) (number c)
 
 pub returns-clause-day : goal.returns-clause-day
 returns-clause-day c =
-    ap day_in c.write_civil.ensures
+    ap day_in c.write_civil.ensures.text
     ∙ day_in-digits c.unsigned_abs.result c.from_days_since_min-date.result.month c.from_days_since_min-date.result.day (let below = year_below c.from_days_since_min-date.result in let is = size c in omega (arith, below, is)) (omega arith) (let long = days_in_month_bounds c.from_days_since_min-date.result.year c.from_days_since_min-date.result.month in omega (arith, long)) (is_day c).civil
     ∙ ap Some (number c)
+
+pub returns-clause-ascii : goal.returns-clause-ascii
+returns-clause-ascii c = subst IsAscii (returns-clause-text c) c.write_civil.ensures.ascii

@@ -1,0 +1,23 @@
+use Rattle.std.proofs.Common.{◌≡◌, ℕ, List, [], ◌∷◌, ◌++◌, ap, sym, subst, ◌∙◌}
+use Rattle.std.specs.Prelude.{option_to_list, option_copied}
+use Rattle.std.proofs.lemmas.List.{append-nil}
+use Rattle.gaz_outside.specs.Outside.{Prints, PrintsFront}
+use Rattle.gaz_reply.specs.Reply.{reply_text, rows, with_ends, end_line}
+use Rattle.gaz_reply.proofs.Pieces.{both, front}
+use Rattle.gaz_serve.proofs.tell.tell_found.Goals as goal
+
+-- a line and the end behind it are the whole reply
+one_row : (line : List ℕ) → with_ends (line ∷ []) ++ with_ends (end_line 1 ∷ []) ≡ reply_text (rows (line ∷ []))
+one_row line = ap (λ xs. xs ++ with_ends (end_line 1 ∷ [])) (append-nil (line ++ 10 ∷ []))
+
+pub returns-in-Ok-clause-printed : goal.returns-in-Ok-clause-printed
+returns-in-Ok-clause-printed g c =
+    subst (λ text. Prints text (g.T.Station.view c.args.station.now) (g.T.Station.view c.write_end.new.station) c.write_end.result)
+    (one_row c.in-Some.line.now ∙ ap (λ l. reply_text (rows (option_to_list (option_copied l)))) (sym c.in-Some.is))
+    (both (with_ends (c.in-Some.line.now ∷ [])) (with_ends (end_line 1 ∷ [])) _ _ _ c.write_end.result c.in-Ok.ensures.printed c.write_end.ensures.printed)
+
+pub returns-in-Err-clause-printed : goal.returns-in-Err-clause-printed
+returns-in-Err-clause-printed g c =
+    subst (λ text. PrintsFront text (g.T.Station.view c.args.station.now) (g.T.Station.view c.write_row.new.station))
+    (one_row c.in-Some.line.now ∙ ap (λ l. reply_text (rows (option_to_list (option_copied l)))) (sym c.in-Some.is))
+    (front (with_ends (c.in-Some.line.now ∷ [])) (with_ends (end_line 1 ∷ [])) _ _ c.in-Err.ensures.printed)
