@@ -9,6 +9,7 @@ use Rattle.jiff_core.proofs.CalendarLemmas.{days_in_month_bounds}
 use Rattle.jiff_core.proofs.DateLemmas.{days_from_civil-day, days_from_civil-next_month, days_from_civil-next_year}
 use Rattle.gaz_num.specs.Dates.{Civil, day_number, date_after, date_of, is_date}
 
+-- the parts of a test of two, and the test from its parts
 pub and_left : (a b : Bool) → (a && b) ≡ true → a ≡ true
 and_left true b h = refl
 and_left false b h = h
@@ -26,6 +27,7 @@ pub record IsOn (year month day : ℕ) : Type 0 where
   pub days : days_from_civil (pos year) month day ≡ days_from_civil (pos 0) 1 1 +ℤ pos number
   pub date : date_of number ≡ record { year = year; month = month; day = day }
 
+-- from a day to the next within its month, from a month to the next, from a year to the next
 next_day : (y m d : ℕ) → 1 ≤ d → d < days_in_month (pos y) m → IsOn y m d → IsOn y m (suc d)
 next_day y m d low more on =
     let one = days_from_civil-day (pos y) m d (suc d) low (omega arith) in
@@ -62,6 +64,7 @@ next_year y on =
       date = ap date_after on.date;
     }
 
+-- so each day from the first of its month, each month from its year's first, each year from 0000
 on_day : (y m : ℕ) → IsOn y m 1 → (d : ℕ) → suc d ≤ days_in_month (pos y) m → IsOn y m (suc d)
 on_day y m on zero le = on
 on_day y m on (suc d) le = next_day y m (suc d) (omega arith) le (on_day y m on d (omega (arith, le)))

@@ -12,6 +12,7 @@ use Rattle.gaz_num.specs.Dates.{day_number, padded_number, civil_text, date_text
 use Rattle.gaz_num.proofs.CalendarLemmas.{and_left, and_right, and_both, date_of-day_number}
 
 -- the digits: a number is written with as many as it was read from
+-- each byte is a decimal digit
 abbrev pub AreAscii : List ℕ → Type 0
 AreAscii ds = all_ascii_digits ds ≡ true
 
@@ -25,19 +26,18 @@ model = numerals_by_value AreAscii (record {
   more = λ c cs r h. and_both (is_ascii_digit c) (all_ascii_digits cs) (and_both (nat_le 48 c) (nat_le c 57) (le-leb 48 c r.0) (le-leb c 57 r.1)) h;
 })
 
-padded_short : (n : ℕ) (xs : List ℕ) (width : ℕ) → width ≡ length (decimal n) → padded_number width n ≡ decimal n
-padded_short n xs width is = ap (λ (k : ℕ). replicate k 48 ++ decimal n) none
+-- a number with as many digits as the width gets no zeros
+padded_short : (n : ℕ) (width : ℕ) → width ≡ length (decimal n) → padded_number width n ≡ decimal n
+padded_short n width is = ap (λ (k : ℕ). replicate k 48 ++ decimal n) none
   where
     none : width - length (decimal n) ≡ 0
     none = omega (arith, is)
-
-zero_more : (k : ℕ) (xs : List ℕ) → replicate (suc k) 48 ++ xs ≡ 48 ∷ (replicate k 48 ++ xs)
-zero_more k xs = refl
 
 length_zeros : (k : ℕ) (xs : List ℕ) → length (replicate k 48 ++ xs) ≡ k + length xs
 length_zeros zero xs = omega arith
 length_zeros (suc k) xs = let more = length_zeros k xs in omega (arith, more)
 
+-- one place more puts a zero in front
 zero_first : (rest : List ℕ) (k v : ℕ) → k ≡ length rest → padded_number k v ≡ rest → padded_number (suc k) v ≡ 48 ∷ rest
 zero_first rest k v is text =
     let count : (k - length (decimal v)) + length (decimal v) ≡ k = sym (length_zeros (k - length (decimal v)) (decimal v)) ∙ ap length text ∙ sym is in
@@ -47,11 +47,12 @@ zero_first rest k v is text =
 small : (ds : List ℕ) → AreAscii ds → length ds ≤ 10 → digits_value 10 ds < 2 ^ 64
 small ds h le = let short = digits_value_short model ds 10 h le in omega (arith, short)
 
+-- digits are written again from their number, padded to as many
 pub written : (ds : List ℕ) → AreAscii ds → 0 < length ds → length ds ≤ 10 → padded_number (length ds) (digits_value 10 ds) ≡ ds
 written [] h some le = absurd (omega (arith, some))
 written (x ∷ []) h some le =
     let is = decimal-digits_value model (x ∷ []) h some (λ z. refl) (small (x ∷ []) h le) in
-    padded_short (digits_value 10 (x ∷ [])) [] 1 (sym (ap length is)) ∙ is
+    padded_short (digits_value 10 (x ∷ [])) 1 (sym (ap length is)) ∙ is
 written (x ∷ y ∷ ds) h some le = by (x == 48) refl (written (y ∷ ds) (and_right (is_ascii_digit x) (all_ascii_digits (y ∷ ds)) h) (omega arith) (omega (arith, le)))
   where
     by : (b : Bool) → (x == 48) ≡ b → padded_number (length (y ∷ ds)) (digits_value 10 (y ∷ ds)) ≡ y ∷ ds → padded_number (length (x ∷ y ∷ ds)) (digits_value 10 (x ∷ y ∷ ds)) ≡ x ∷ y ∷ ds
@@ -60,8 +61,9 @@ written (x ∷ y ∷ ds) h some le = by (x == 48) refl (written (y ∷ ds) (and_
     by false is rest =
         let lead : get_or (x ∷ y ∷ ds) 0 0 ≡ 48 → length (x ∷ y ∷ ds) ≡ 1 = λ z. absurd (true≢false (sym (ap (λ (n : ℕ). n == 48) z) ∙ is)) in
         let d = decimal-digits_value model (x ∷ y ∷ ds) h some lead (small (x ∷ y ∷ ds) h le) in
-        padded_short (digits_value 10 (x ∷ y ∷ ds)) [] (length (x ∷ y ∷ ds)) (sym (ap length d)) ∙ d
+        padded_short (digits_value 10 (x ∷ y ∷ ds)) (length (x ∷ y ∷ ds)) (sym (ap length d)) ∙ d
 
+-- the three parts of a date between dashes
 pub three_parts : (a b c x y z : List ℕ) → a ≡ x → b ≡ y → c ≡ z → a ++ 45 ∷ [] ++ b ++ 45 ∷ [] ++ c ≡ x ++ 45 ∷ [] ++ y ++ 45 ∷ [] ++ z
 three_parts a b c x y z is_a is_b is_c =
     ap (λ (l : List ℕ). l ++ 45 ∷ [] ++ b ++ 45 ∷ [] ++ c) is_a ∙ ap (λ (l : List ℕ). x ++ 45 ∷ [] ++ l ++ 45 ∷ [] ++ c) is_b ∙ ap (λ (l : List ℕ). x ++ 45 ∷ [] ++ y ++ 45 ∷ [] ++ l) is_c

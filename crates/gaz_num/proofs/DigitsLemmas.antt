@@ -14,9 +14,6 @@ powers digits le = sym (pow-add 10 (12 - digits) digits) ∙ all (12 - digits + 
     all : (k : ℕ) → k ≡ 12 → 10 ^ k ≡ 10 ^ 12
     all k is = ap (λ (n : ℕ). 10 ^ n) is
 
-pub power_fits : (k : ℕ) → k ≤ 12 → 10 ^ k < 2 ^ 64
-power_fits k le = let top = pow-le-pow_right {n = 10} (omega arith) {i = k} {j = 12} le in omega (arith, top)
-
 -- a fraction is less than one
 pub below_one : (value digits last : ℕ) → value < 10 ^ digits → last * 10 ^ digits ≡ 10 ^ 12 → value * last < 10 ^ 12
 below_one value digits zero below is = omega (arith, is)

@@ -15,6 +15,7 @@ use Rattle.gaz_num.specs.declared.words.Reason.{Reason}
 use Rattle.gaz_num.specs.declared.words.Reason.TheVariants.{Length, Utf8, Columns, Id, Latitude, Longitude}
 use Rattle.gaz_num.proofs.PiecesLemmas.{fields_whole}
 
+-- the tests that a row's methods rest on
 pub record IsAccepted (line : List ℕ) : Type 0 where
   pub utf8 : is_utf8 line ≡ true
   pub columns : (length (fields line) == 19) ≡ true
@@ -27,6 +28,7 @@ passed : (reason : Reason) (b : Bool) (rest : List (Reason × Bool)) → first_f
 passed reason true rest is = (refl, is)
 passed reason false rest is = absurd (cc)
 
+-- each of them passed
 pub accepted : (line : List ℕ) → reason_against Row line ≡ None → IsAccepted line
 unfolding reason_against
 accepted line is =
@@ -44,9 +46,11 @@ accepted line is =
       longitude = longitude_ok.0;
     }
 
+-- a reader that is known to find something
 pub some_of : {X : Type 0} → (found wanted : Option X) → found ≡ wanted → is_some wanted ≡ true → IsSome found
 some_of found wanted is some = ap is_some is ∙ some
 
+-- of a line with one column
 whole : (n : ℕ) (line : List ℕ) → IsUtf8 line → fields line ≡ line ∷ [] → IsUtf8 (unwrap_or (slice_get (fields line) n) [])
 whole zero line text is = subst (λ (all : List (List ℕ)). IsUtf8 (unwrap_or (slice_get all 0) [])) (sym is) text
 whole (suc n) line text is = subst (λ (all : List (List ℕ)). IsUtf8 (unwrap_or (slice_get all (suc n)) [])) (sym is) IsUtf8-nil
@@ -75,6 +79,7 @@ column_is_text (suc n) line text = elim (cases_lt (position_or_len is_tab line) 
 pub accepted_column : (line : List ℕ) (number : ℕ) → reason_against Row line ≡ None → IsUtf8 (column number line)
 accepted_column line number is = column_is_text (number - 1) line (IsUtf8-from_is_utf8 line (accepted line is).utf8)
 
+-- a reader that is known not to fail
 pub ok_of : {T E : Type 0} → (read : Result T E) (P : T → Type 0) (Q : E → Type 0) → MatchResult read P Q → ((fault : E) → Q fault → ⊥) → IsOk read
 ok_of (Ok text) P Q is never = refl
 ok_of (Err fault) P Q is never = absurd (never fault is)
