@@ -226,7 +226,7 @@ impl LineCutter {
         file: u64,
     ) -> Result<Option<Span>, LineFault>
         requires reads { MayReadFile self.old file }
-        requires open { IsSome ((F.view shelf.old).opened file) }
+        requires opened { IsSome ((F.view shelf.old).opened file) }
         requires ended { HasEnded self.old → IfSome (left_at (F.view shelf.old) file (place_of self.old)) (λ bytes. bytes ≡ []) }
         ensures gave { Gave self.old self.new (left_at (F.view shelf.old) file (place_of self.old)) (left_at (F.view shelf.new) file (place_of self.new)) (answer_of (text_at self.new.window) result) }
         ensures stands { IfLine (λ span. IsSome (bytes_at self.new.window span)) result }
@@ -267,7 +267,7 @@ impl LineCutter {
         file: u64,
     ) -> Result<Option<&[u8]>, LineFault>
         requires reads { MayReadFile self.old file }
-        requires open { IsSome ((F.view shelf.old).opened file) }
+        requires opened { IsSome ((F.view shelf.old).opened file) }
         requires ended { HasEnded self.old → IfSome (left_at (F.view shelf.old) file (place_of self.old)) (λ bytes. bytes ≡ []) }
         ensures* after_borrow { sem 𝓛 (Rests the_row self.entry (λ new.
             Gave self.old new (left_at (F.view shelf.old) file (place_of self.old)) (left_at (F.view shelf.new) file (place_of new)) (answer_of (λ line. line.now) result)

@@ -7,6 +7,8 @@
 
 mod cutter;
 mod fault;
+#[cfg(test)]
+mod tests;
 mod window;
 
 pub use cutter::LineCutter;

@@ -139,7 +139,7 @@ impl Window {
         at: u64,
     ) -> Result<usize, Failed>
         requires room { has_room self.old }
-        requires open { IsSome ((F.view shelf.old).opened file) }
+        requires opened { IsSome ((F.view shelf.old).opened file) }
         ensures count { IfOk result (λ n. n ≤ 65536) }
         ensures ok { IfOk result (λ n. (chunk : List ℕ) × (length chunk ≡ n) × (items self.new ≡ items self.old ++ chunk)
             × (left_at (F.view shelf.old) file at ≡ prepend_known chunk (left_at (F.view shelf.new) file (at + n)))) }
