@@ -1,4 +1,5 @@
 pub mod Callers
+pub mod Examples
 pub mod Giving
 pub mod Keeping
 pub mod Lists

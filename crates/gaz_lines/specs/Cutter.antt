@@ -5,7 +5,7 @@ use Rattle.std.specs.Io.KnownBytes.{prepend_known}
 use Rattle.gaz_outside.specs.Outside.{ShelfView, IsPrefix, RisesOnce}
 use Rattle.gaz_lines.specs.Lines.{IsLine, Rest, rest_of, onto}
 use Rattle.gaz_lines.specs.Window.{items}
-use Rattle.gaz_lines.specs.Files.{place_in}
+use Rattle.gaz_lines.specs.Files.{place_in, left_at}
 use Rattle.gaz_lines.specs.declared.cutter.LineCutter.{LineCutter}
 use Rattle.gaz_lines.specs.declared.cutter.Reads.TheVariants.{Nothing, Source, File}
 use Rattle.gaz_lines.specs.declared.fault.LineFault.{LineFault}
@@ -167,3 +167,15 @@ FailedOnce before now other = now ≡ before
 abbrev pub BlamesFile : {X : Type 0} → Option (List ℕ) → ShelfView → ShelfView → Result X LineFault → Type 0
 BlamesFile name old new (Err Failed) = new.last_fault ≡ name
 BlamesFile name old new other = new.last_fault ≡ old.last_fault
+
+-- What one call gave of a source.
+pub record GaveOfSource (old new : LineCutter) (left left_now : Option (List ℕ)) (answer : Result (Option (List ℕ)) LineFault) : Type 0 where
+  pub gave : Gave old new left left_now answer
+  pub reads : ReadsSource new
+
+-- What one call gave of a file: its lines, whether the shelf wasn't called, and when it was read.
+pub record GaveOfFile (uncalled : Type 0) (old new : LineCutter) (file : ℕ) (shelf shelf_now : ShelfView) (answer : Result (Option (List ℕ)) LineFault) : Type 0 where
+  pub gave : Gave old new (left_at shelf file (place_of old)) (left_at shelf_now file (place_of new)) answer
+  pub reads : ReadsFile new file
+  pub waits : uncalled ⊎ Waited old.allowed 65536 (held old) (pending old (left_at shelf file (place_of old))) (left_at shelf_now file (place_of new))
+  pub waits_in_vain : OnFailed answer (Waited old.allowed 0 (held old) (pending old (left_at shelf file (place_of old))) (left_at shelf_now file (place_of new)))

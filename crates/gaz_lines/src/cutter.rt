@@ -52,7 +52,7 @@ pub(crate) enum Step {
 impl LineCutter {
     ghost use Rattle.gaz_lines.specs.Lines.{IsLine};
     ghost use Rattle.gaz_lines.specs.Window.{bytes_at, text_at, has_room};
-    ghost use Rattle.gaz_lines.specs.Cutter.{held, pending, HasEnded, IsPast, ReadsSource, MayReadSource, line_limit_of, file_limit_of, allowed_of, line_of, place_of, ReadsFile, MayReadFile, BlamesFile, IsFresh, Gave, Waited, FailedOnce, IfLine, OnFailed, answer_of};
+    ghost use Rattle.gaz_lines.specs.Cutter.{held, pending, HasEnded, IsPast, ReadsSource, MayReadSource, line_limit_of, file_limit_of, allowed_of, line_of, place_of, ReadsFile, MayReadFile, BlamesFile, IsFresh, Gave, GaveOfSource, GaveOfFile, Waited, FailedOnce, IfLine, OnFailed, answer_of};
     ghost use Rattle.gaz_lines.specs.declared.fault.LineFault.TheVariants.{FileTooLong};
     ghost use Rattle.gaz_lines.specs.contracts.cutter.LineCutter.{the_row};
     ghost use Rattle.gaz_lines.specs.Step.{SameBut, CutOff, Stepped, MadeRoom};
@@ -192,7 +192,7 @@ impl LineCutter {
         requires reads { MayReadSource self.old }
         requires ended { HasEnded self.old → IfSome (left_of (S.view source.old)) (λ bytes. bytes ≡ []) }
         ensures* after_borrow { sem 𝓛 (Rests the_row self.entry (λ new.
-            Gave self.old new (left_of (S.view source.old)) (left_of (S.view source.new)) (answer_of (λ line. line.now) result) × ReadsSource new)) }
+            GaveOfSource self.old new (left_of (S.view source.old)) (left_of (S.view source.new)) (answer_of (λ line. line.now) result))) }
         ensures line { IfLine (λ line. IsLine line.now × (length line.now ≤ line_limit_of self.old)) result }
         ensures waits { (source.new ≡ source.old)
             ⊎ Waited (allowed_of self.old) 65536 (held self.old) (pending self.old (left_of (S.view source.old))) (left_of (S.view source.new)) }
@@ -270,10 +270,7 @@ impl LineCutter {
         requires opened { IsSome ((F.view shelf.old).opened file) }
         requires ended { HasEnded self.old → IfSome (left_at (F.view shelf.old) file (place_of self.old)) (λ bytes. bytes ≡ []) }
         ensures* after_borrow { sem 𝓛 (Rests the_row self.entry (λ new.
-            Gave self.old new (left_at (F.view shelf.old) file (place_of self.old)) (left_at (F.view shelf.new) file (place_of new)) (answer_of (λ line. line.now) result)
-            × ReadsFile new file
-            × ((shelf.new ≡ shelf.old)
-            ⊎ Waited (allowed_of self.old) 65536 (held self.old) (pending self.old (left_at (F.view shelf.old) file (place_of self.old))) (left_at (F.view shelf.new) file (place_of new))))) }
+            GaveOfFile (shelf.new ≡ shelf.old) self.old new file (F.view shelf.old) (F.view shelf.new) (answer_of (λ line. line.now) result))) }
         ensures line { IfLine (λ line. IsLine line.now × (length line.now ≤ line_limit_of self.old)) result }
         ensures past { IsPast self.old → result ≡ Err FileTooLong }
         ensures rests { HasEnded self.old → (shelf.new ≡ shelf.old) × OnFailed result ⊥ }

@@ -8,7 +8,7 @@ loop-preserved g c =
     let gave = c.next_shelf.follows.holds-at-none in
     let opened = subst IsSome (sym (c.next_shelf.ensures.numbers c.in-Ok-Some.file)) c.loop.invariant.opened in
     elim c.match-next_shelf.branch [
-      | in-Ok-Some-next_shelf+in_ok-extend_from_slice-in-Ok-Some-next_shelf w ↦ record { reads = rw w.cutter-is (inr gave.1); opened = opened; ended = rw w.cutter-is gave.0.ended }
-      | in-Err-TooLong+in_ok-extend_from_slice-in-Err-TooLong w ↦ record { reads = rw w.cutter-is (inr gave.1); opened = opened; ended = rw w.cutter-is gave.0.ended }
-      | in-Err-FileTooLong+in_ok-extend_from_slice-in-Err-FileTooLong w ↦ record { reads = rw w.cutter-is (inr gave.1); opened = opened; ended = rw w.cutter-is gave.0.ended }
+      | in-Ok-Some-next_shelf+in_ok-extend_from_slice-in-Ok-Some-next_shelf w ↦ record { reads = rw w.cutter-is (inr gave.reads); opened = opened; ended = rw w.cutter-is gave.gave.ended }
+      | in-Err-TooLong+in_ok-extend_from_slice-in-Err-TooLong w ↦ record { reads = rw w.cutter-is (inr gave.reads); opened = opened; ended = rw w.cutter-is gave.gave.ended }
+      | in-Err-FileTooLong+in_ok-extend_from_slice-in-Err-FileTooLong w ↦ record { reads = rw w.cutter-is (inr gave.reads); opened = opened; ended = rw w.cutter-is gave.gave.ended }
     ]

@@ -6,7 +6,7 @@ use Rattle.gaz_lines.proofs.cutter.LineCutter.next_shelf.Goals as goal
 pub returns-in-Ok-None : goal.returns-in-Ok-None
 returns-in-Ok-None g c =
     let e = c.in-Ok-None.ensures in (
-      (refl, λ _. tt, (rw c.in-Ok-None.field-0-is at e.gave, e.reads, e.waits)),
+      (refl, λ _. tt, record { gave = rw c.in-Ok-None.field-0-is at e.gave; reads = e.reads; waits = e.waits; waits_in_vain = tt }),
       record {
         after_borrow = tt;
         line = tt;
