@@ -65,14 +65,14 @@ returns-in-Err-clause-waits_in_vain g c =
     let i = c.loop-result.invariant in
     let place = c.place-at.ensures ∙ ap place_in c.in-More.ensures.3.same.reads in
     let untaken = ap (left_at (g.F.Shelf.view c.read_from.new.shelf) c.args.file) (sym c.place-at.ensures) ∙ c.in-Err.ensures.unread ∙ ap (left_at (g.F.Shelf.view c.loop-result.shelf) c.args.file) place in
-    waited c.args.self.now c.loop-result.self c.step.new.self c.loop-result.searched c.in-More.count _ _ i.reading c.in-More.ensures 0 [] _ (sym untaken ∙ sym (prepend_none (left_at (g.F.Shelf.view c.read_from.new.shelf) c.args.file (place_of c.step.new.self)))) (omega arith)
+    waited c.args.self.now c.loop-result.self c.step.new.self c.loop-result.searched c.in-More.count (left_at (g.F.Shelf.view c.args.shelf.now) c.args.file (place_of c.args.self.now)) (left_at (g.F.Shelf.view c.loop-result.shelf) c.args.file (place_of c.loop-result.self)) i.reading c.in-More.ensures 0 [] (left_at (g.F.Shelf.view c.read_from.new.shelf) c.args.file (place_of c.step.new.self)) (sym untaken ∙ sym (prepend_none (left_at (g.F.Shelf.view c.read_from.new.shelf) c.args.file (place_of c.step.new.self)))) (omega arith)
 
 pub returns-in-Err-clause-waits : goal.returns-in-Err-clause-waits
 returns-in-Err-clause-waits g c =
     let i = c.loop-result.invariant in
     let place = c.place-at.ensures ∙ ap place_in c.in-More.ensures.3.same.reads in
     let untaken = ap (left_at (g.F.Shelf.view c.read_from.new.shelf) c.args.file) (sym c.place-at.ensures) ∙ c.in-Err.ensures.unread ∙ ap (left_at (g.F.Shelf.view c.loop-result.shelf) c.args.file) place in
-    inr (waited c.args.self.now c.loop-result.self c.step.new.self c.loop-result.searched c.in-More.count _ _ i.reading c.in-More.ensures 65536 [] _ (sym untaken ∙ sym (prepend_none (left_at (g.F.Shelf.view c.read_from.new.shelf) c.args.file (place_of c.step.new.self)))) (omega arith))
+    inr (waited c.args.self.now c.loop-result.self c.step.new.self c.loop-result.searched c.in-More.count (left_at (g.F.Shelf.view c.args.shelf.now) c.args.file (place_of c.args.self.now)) (left_at (g.F.Shelf.view c.loop-result.shelf) c.args.file (place_of c.loop-result.self)) i.reading c.in-More.ensures 65536 [] (left_at (g.F.Shelf.view c.read_from.new.shelf) c.args.file (place_of c.step.new.self)) (sym untaken ∙ sym (prepend_none (left_at (g.F.Shelf.view c.read_from.new.shelf) c.args.file (place_of c.step.new.self)))) (omega arith))
 
 pub returns-in-Err-clause-past : goal.returns-in-Err-clause-past
 returns-in-Err-clause-past g c = λ past.
