@@ -95,6 +95,10 @@ before_bad_line : part (dated empty 5) (record { name = file.Rows; bytes = c3 ++
 unfolding after_line reason_against is_utf8 chars encode
 before_bad_line = refl
 
+-- stopped before all
+before_all : part (dated empty 5) (record { name = file.Rows; bytes = codes "\n" } ∷ []) 0 ≡ Ok (dated empty 5)
+before_all = refl
+
 -- the second line is that of the second file
 over_two_files : part (gazetteer 5 (a1 ∷ b2 ∷ [])) (record { name = file.Modifications 5; bytes = c3 } ∷ record { name = file.Deletes 5; bytes = codes "1\n2\nx" } ∷ []) 2 ≡ Ok (gazetteer 5 (b2 ∷ c3 ∷ []))
 unfolding after_line reason_against is_utf8 chars encode
@@ -109,6 +113,11 @@ wrong_date : day (dated empty 5) (one [] []) 5 ≡ Err (sequence 5)
 unfolding day
 wrong_date = refl
 
+-- a day is left out
+later_date : day (dated empty 5) (one [] []) 7 ≡ Err (sequence 5)
+unfolding day
+later_date = refl
+
 absent_day : day (dated empty 5) (one [] []) 6 ≡ Err (absent (file.Modifications 6))
 unfolding day digits
 absent_day = refl
@@ -117,6 +126,11 @@ absent_day = refl
 day_applied : day (gazetteer 5 (a1 ∷ x2 ∷ c3 ∷ [])) (beside (codes "modifications-0000-01-07.txt") (b2 ++ codes "\n") (one (codes "deletes-0000-01-07.txt") (codes "3\tC\tgone\n77"))) 6 ≡ Ok (gazetteer 6 (a1 ∷ b2 ∷ []))
 unfolding day after_line reason_against is_utf8 chars encode digits
 day_applied = refl
+
+-- a row that is changed and taken out on one day is gone
+changed_and_deleted : day (gazetteer 5 (a1 ∷ b2 ∷ c3 ∷ [])) (beside (codes "modifications-0000-01-07.txt") x2 (one (codes "deletes-0000-01-07.txt") (codes "2\tX\tgone"))) 6 ≡ Ok (gazetteer 6 (a1 ∷ c3 ∷ []))
+unfolding day after_line reason_against is_utf8 chars encode digits
+changed_and_deleted = refl
 
 -- the line of a delete is counted in its own file
 bad_delete : day (gazetteer 5 (a1 ∷ [])) (beside (codes "modifications-0000-01-07.txt") (b2 ++ codes "\n") (one (codes "deletes-0000-01-07.txt") (codes "1\nx"))) 6 ≡ Err (malformed (file.Deletes 6) 2 reason.Id)

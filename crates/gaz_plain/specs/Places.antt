@@ -9,6 +9,14 @@ use Rattle.gaz_plain.specs.Gazetteer.{line_at, replaced}
 abbrev pub IsIdOf : ℕ → List ℕ → Type 0
 IsIdOf id line = key_in Row line ≡ Some (id ∷ [])
 
+-- the rows with this one at its id
+abbrev pub with_row : ℕ → List ℕ → List (List ℕ) → List (List ℕ)
+with_row id row rows = replaced Rows (id ∷ []) (row ∷ []) rows
+
+-- the rows without the one that has the id
+abbrev pub without_row : ℕ → List (List ℕ) → List (List ℕ)
+without_row id rows = replaced Rows (id ∷ []) [] rows
+
 -- The row with this id stands at the place: to replace it is to replace what stands there.
 pub record IsPlaceOf (id : ℕ) (rows : List (List ℕ)) (place : ℕ) : Type 0 where
   pub in_range : place < length rows

@@ -67,8 +67,8 @@ impl RowList {
     ghost use Rattle.std.specs.Prelude.{◌≡◌, ◌<◌, ◌≤◌, [], ◌∷◌, length, IfOk, IfErr, OnOk, OnErr};
     ghost use Rattle.std.specs.Option.{option_copied};
     ghost use Rattle.gaz_num.specs.declared.words.Table.TheVariants.{Rows};
-    ghost use Rattle.gaz_plain.specs.Gazetteer.{limit_of, line_at, replaced};
-    ghost use Rattle.gaz_plain.specs.Places.{IsIdOf, IsPlaceOf, IsGapFor};
+    ghost use Rattle.gaz_plain.specs.Gazetteer.{limit_of, line_at};
+    ghost use Rattle.gaz_plain.specs.Places.{IsIdOf, IsPlaceOf, IsGapFor, with_row, without_row};
 
     pub fn new(alloc: Global) -> RowList
         ensures { result ≡ [] }
@@ -98,9 +98,10 @@ impl RowList {
     /// Puts the row in the place of the one with its id, or where it would stand.
     pub fn put(&mut self, id: u32, row: &[u8]) -> Result<(), PutFault>
         requires { IsIdOf id row.now }
-        ensures ok { OnOk result (self.new ≡ replaced Rows (id ∷ []) (row.now ∷ []) self.old) }
+        ensures ok { OnOk result (self.new ≡ with_row id row.now self.old) }
         ensures within { length self.new ≤ limit_of Rows }
-        ensures full { result ≡ Err PutFault.Full → limit_of Rows < length (replaced Rows (id ∷ []) (row.now ∷ []) self.old) }
+        ensures full { result ≡ Err PutFault.Full →
+            limit_of Rows < length (with_row id row.now self.old) }
         ensures err { OnErr result (self.new ≡ self.old) }
     {
         match self.place_of(id) {
@@ -115,7 +116,7 @@ impl RowList {
     fn write_over(&mut self, place: usize, id: u32, row: &[u8]) -> Result<(), AllocError>
         requires keyed { IsIdOf id row.now }
         requires at { IsPlaceOf id self.old place }
-        ensures ok { OnOk result (self.new ≡ replaced Rows (id ∷ []) (row.now ∷ []) self.old) }
+        ensures ok { OnOk result (self.new ≡ with_row id row.now self.old) }
         ensures within { length self.new ≤ limit_of Rows }
         ensures err { OnErr result (self.new ≡ self.old) }
     {
@@ -130,7 +131,7 @@ impl RowList {
         requires keyed { IsIdOf id row.now }
         requires gap { IsGapFor id self.old place }
         requires room { length self.old < limit_of Rows }
-        ensures ok { OnOk result (self.new ≡ replaced Rows (id ∷ []) (row.now ∷ []) self.old) }
+        ensures ok { OnOk result (self.new ≡ with_row id row.now self.old) }
         ensures within { length self.new ≤ limit_of Rows }
         ensures err { OnErr result (self.new ≡ self.old) }
     {
@@ -142,7 +143,7 @@ impl RowList {
 
     /// Takes out the row with the id, if there is one.
     pub fn take_out(&mut self, id: u32)
-        ensures rows { self.new ≡ replaced Rows (id ∷ []) [] self.old }
+        ensures rows { self.new ≡ without_row id self.old }
         ensures within { length self.new ≤ limit_of Rows }
     {
         if let Ok(place) = self.place_of(id) {
