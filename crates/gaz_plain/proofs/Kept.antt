@@ -14,13 +14,13 @@ use Rattle.gaz_num.specs.Refusal.{Refusal, sequence, ◌>>=◌}
 use Rattle.gaz_plain.specs.Gazetteer.{Gazetteer, empty, dated, IsLine, IsTable, IsGazetteer, limit_of, lines_in, with_lines, key_of, table_of, replaced, step, step_at, if_within, after_check, after_line}
 use Rattle.gaz_plain.specs.Fold.{File, fold}
 use Rattle.gaz_plain.specs.Load.{Files, load, day, load_files, day_files, files_of, in_sequence}
-use Rattle.gaz_plain.specs.Laws.{IsOf, FoldKeeps, PartKeeps, LoadGives, DayGives, DayTwice}
+use Rattle.gaz_plain.specs.Laws.{IsGazetteerOf, FoldKeeps, PartKeeps, LoadGives, DayGives, DayTwice}
 use Rattle.gaz_plain.proofs.Tables.{IsTable-replaced, rising_one, rising_none}
 use Rattle.gaz_plain.proofs.Folds.{LinesKeep, IfOk-bind, IfOk-always, IfOk-weaker, fold_keeps, part_keeps}
 use Rattle.gaz_plain.proofs.Steps.{key_of_row}
 
 -- other rows that are a table
-rows_kept : (date : Option ℕ) → IsSome date → (gaz : Gazetteer) (rows : List (List ℕ)) → IsOf date gaz → IsTable Rows rows → IsOf date (with_lines gaz Rows rows)
+rows_kept : (date : Option ℕ) → IsSome date → (gaz : Gazetteer) (rows : List (List ℕ)) → IsGazetteerOf date gaz → IsTable Rows rows → IsGazetteerOf date (with_lines gaz Rows rows)
 rows_kept date some gaz rows is table = record {
   is_gazetteer = record {
     tables = λ t. by t;
@@ -33,7 +33,7 @@ rows_kept date some gaz rows is table = record {
     by : (t : Table) → IsTable t (lines_in (with_lines gaz Rows rows) t)
     by Rows = table
 
-pub row_kept : (date : Option ℕ) → IsSome date → (gaz : Gazetteer) (line : List ℕ) → IsLine Row line → IsOf date gaz → (found : Option (List ℕ)) → key_in Row line ≡ found → length (step_at gaz Row line found).rows ≤ limit_of Rows → IsOf date (step_at gaz Row line found)
+pub row_kept : (date : Option ℕ) → IsSome date → (gaz : Gazetteer) (line : List ℕ) → IsLine Row line → IsGazetteerOf date gaz → (found : Option (List ℕ)) → key_in Row line ≡ found → length (step_at gaz Row line found).rows ≤ limit_of Rows → IsGazetteerOf date (step_at gaz Row line found)
 row_kept date some gaz line is_line is None e within = is
 row_kept date some gaz line is_line is (Some key) e within =
     rows_kept date some gaz (replaced Rows key (line ∷ []) gaz.rows) is
@@ -42,14 +42,14 @@ row_kept date some gaz line is_line is (Some key) e within =
     (All-cons (λ l. key_of Rows l ≡ key) line [] (key_of_row line key e) (All-nil (λ l. key_of Rows l ≡ key)))
     (rising_one Rows line) within)
 
-pub delete_kept : (date : Option ℕ) → IsSome date → (gaz : Gazetteer) (line : List ℕ) → IsOf date gaz → (found : Option (List ℕ)) → length (step_at gaz RowDelete line found).rows ≤ limit_of Rows → IsOf date (step_at gaz RowDelete line found)
+pub delete_kept : (date : Option ℕ) → IsSome date → (gaz : Gazetteer) (line : List ℕ) → IsGazetteerOf date gaz → (found : Option (List ℕ)) → length (step_at gaz RowDelete line found).rows ≤ limit_of Rows → IsGazetteerOf date (step_at gaz RowDelete line found)
 delete_kept date some gaz line is None within = is
 delete_kept date some gaz line is (Some key) within =
     rows_kept date some gaz (replaced Rows key [] gaz.rows) is
     (IsTable-replaced Rows key [] gaz.rows (is.is_gazetteer.tables Rows) (All-nil (IsLine Row)) (All-nil (λ l. key_of Rows l ≡ key)) (rising_none Rows) within)
 
 -- a step within the limit
-step_kept : (date : Option ℕ) → IsSome date → (gaz : Gazetteer) (kind : Kind) (line : List ℕ) → IsLine kind line → IsOf date gaz → length (lines_in (step gaz kind line) (table_of kind)) ≤ limit_of (table_of kind) → IsOf date (step gaz kind line)
+step_kept : (date : Option ℕ) → IsSome date → (gaz : Gazetteer) (kind : Kind) (line : List ℕ) → IsLine kind line → IsGazetteerOf date gaz → length (lines_in (step gaz kind line) (table_of kind)) ≤ limit_of (table_of kind) → IsGazetteerOf date (step gaz kind line)
 step_kept date some gaz Row line is_line is within = row_kept date some gaz line is_line is (key_in Row line) refl within
 step_kept date some gaz RowDelete line is_line is within = delete_kept date some gaz line is (key_in RowDelete line) within
 
@@ -62,11 +62,11 @@ check_kept P gaz kind line (Some reason) holds = tt
 check_kept P gaz kind line None holds = holds refl
 
 -- a line that is taken keeps what a gazetteer is
-pub line_keeps : (date : Option ℕ) → IsSome date → LinesKeep (IsOf date)
+pub line_keeps : (date : Option ℕ) → IsSome date → LinesKeep (IsGazetteerOf date)
 unfolding after_line
 line_keeps date some gaz kind bytes one is =
-    check_kept (IsOf date) gaz kind bytes (reason_against kind bytes) (λ accepted.
-    within_kept (IsOf date) (table_of kind) (step gaz kind bytes) _ refl (λ within.
+    check_kept (IsGazetteerOf date) gaz kind bytes (reason_against kind bytes) (λ accepted.
+    within_kept (IsGazetteerOf date) (table_of kind) (step gaz kind bytes) _ refl (λ within.
     step_kept date some gaz kind bytes (record { accepted = accepted; one_line = one }) is within))
 
 step_date : (gaz : Gazetteer) (kind : Kind) (line : List ℕ) (found : Option (List ℕ)) → (step_at gaz kind line found).date ≡ gaz.date
@@ -84,13 +84,13 @@ line_keeps_date date gaz kind bytes one is =
     step_date gaz kind bytes (key_in kind bytes) ∙ is))
 
 pub fold_gives : FoldKeeps
-fold_gives gaz files is some = fold_keeps (IsOf gaz.date) (line_keeps gaz.date some) gaz files (record { is_gazetteer = is; has_date = refl })
+fold_gives gaz files is some = fold_keeps (IsGazetteerOf gaz.date) (line_keeps gaz.date some) gaz files (record { is_gazetteer = is; has_date = refl })
 
 pub part_gives : PartKeeps
-part_gives gaz files n is some = part_keeps (IsOf gaz.date) (line_keeps gaz.date some) gaz files n (record { is_gazetteer = is; has_date = refl })
+part_gives gaz files n is some = part_keeps (IsGazetteerOf gaz.date) (line_keeps gaz.date some) gaz files n (record { is_gazetteer = is; has_date = refl })
 
 -- the gazetteer with a date
-dated_is : (gaz : Gazetteer) (date : ℕ) → IsGazetteer gaz → IsOf (Some date) (dated gaz date)
+dated_is : (gaz : Gazetteer) (date : ℕ) → IsGazetteer gaz → IsGazetteerOf (Some date) (dated gaz date)
 dated_is gaz date is = record {
   is_gazetteer = record {
     tables = λ t. by t;
@@ -115,7 +115,7 @@ folded P keep gaz holds files = IfOk-bind P files (λ found. fold gaz found) (If
 
 pub load_gives : LoadGives
 unfolding load
-load_gives shelf date = folded (IsOf (Some date)) (line_keeps (Some date) refl) (dated empty date) (dated_is empty date empty_is) (files_of shelf load_files)
+load_gives shelf date = folded (IsGazetteerOf (Some date)) (line_keeps (Some date) refl) (dated empty date) (dated_is empty date empty_is) (files_of shelf load_files)
 
 next_is : (have : Option ℕ) (date : ℕ) → IfOk (in_sequence have date) (λ next. next ≡ date)
 next_is None date = tt
@@ -133,7 +133,7 @@ day_keeps P gaz shelf date keep holds =
     (λ next same. folded P keep (dated gaz next) (rw same holds) (files_of shelf (day_files next))))
 
 pub day_gives : DayGives
-day_gives gaz shelf date is = day_keeps (IsOf (Some date)) gaz shelf date (line_keeps (Some date) refl) (dated_is gaz date is)
+day_gives gaz shelf date is = day_keeps (IsGazetteerOf (Some date)) gaz shelf date (line_keeps (Some date) refl) (dated_is gaz date is)
 
 IfOk-at : {A E : Type 0} (P : A → Type 0) (r : Result A E) (x : A) → r ≡ Ok x → IfOk r P → P x
 IfOk-at {A = A} {E = E} P r x e holds = let Q : Result A E → Type 0 = λ s. IfOk s P in subst Q e holds

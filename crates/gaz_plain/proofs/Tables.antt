@@ -86,28 +86,65 @@ module _ (table : Table) (key : List ℕ) where
             let b = find-filter (has_key wanted) (λ line. is_gt (key_cmp (key_of table line) key)) (λ line has. compares wanted line is_gt has ∙ ap is_gt is) lines in
             rw (a, b) refl
 
+    abbrev below : List (List ℕ)
+    below = filter (λ line. is_lt (key_cmp (key_of table line) key)) lines
+
+    abbrev above : List (List ℕ)
+    above = filter (λ line. is_gt (key_cmp (key_of table line) key)) lines
+
+    -- a line with a lesser key, with the key, with a greater key
+    abbrev IsBelow : List ℕ → Type 0
+    IsBelow line = key_cmp (key_of table line) key ≡ Less
+
+    abbrev IsAt : List ℕ → Type 0
+    IsAt line = key_of table line ≡ key
+
+    abbrev IsAbove : List ℕ → Type 0
+    IsAbove line = key_cmp key (key_of table line) ≡ Less
+
+    all_below : All IsBelow below
+    all_below =
+        All-weaker (λ line. is_lt (key_cmp (key_of table line) key) ≡ true) IsBelow
+        (λ line. less_from_test (key_cmp (key_of table line) key))
+        below (filter_passes (λ line. is_lt (key_cmp (key_of table line) key)) lines)
+
+    all_above : All IsAbove above
+    all_above =
+        All-weaker (λ line. is_gt (key_cmp (key_of table line) key) ≡ true) IsAbove
+        (λ line passes. nat_list_cmp_total.antisymm key (key_of table line)
+        ∙ ap ordering_reverse (greater_from_test (key_cmp (key_of table line) key) passes))
+        above (filter_passes (λ line. is_gt (key_cmp (key_of table line) key)) lines)
+
+    -- lines of which each comes before each of others
+    abbrev ComeBefore : List (List ℕ) → List (List ℕ) → Type 0
+    ComeBefore first others = All (λ line. All (KeysRise table line) others) first
+
+    -- each of P comes before each of Q
+    across : (P Q : List ℕ → Type 0) → ((line other : List ℕ) → P line → Q other → KeysRise table line other) → (first others : List (List ℕ)) → All P first → All Q others → ComeBefore first others
+    across P Q rise first others left right =
+        All-weaker P (λ line. All (KeysRise table line) others)
+        (λ line is. All-weaker Q (KeysRise table line) (λ other. rise line other is) others right)
+        first left
+
     -- lines stay in order where lines with the key are put in place of the one that has it
     pub rising-replaced : AllPairs (KeysRise table) lines → All (λ line. key_of table line ≡ key) put → AllPairs (KeysRise table) put → AllPairs (KeysRise table) (replaced table key put lines)
     rising-replaced rising at_key put_rises =
-        let below = λ (line : List ℕ). is_lt (key_cmp (key_of table line) key) in
-        let above = λ (line : List ℕ). is_gt (key_cmp (key_of table line) key) in
         let R = KeysRise table in
-        let order = nat_list_cmp_total in
-        let all_below : All (λ line. key_cmp (key_of table line) key ≡ Less) (filter below lines) = All-weaker (λ line. below line ≡ true) (λ line. key_cmp (key_of table line) key ≡ Less) (λ line. less_from_test (key_cmp (key_of table line) key)) (filter below lines) (filter_passes below lines) in
-        let all_above : All (λ line. key_cmp key (key_of table line) ≡ Less) (filter above lines) = All-weaker (λ line. above line ≡ true) (λ line. key_cmp key (key_of table line) ≡ Less) (λ line passes. order.antisymm key (key_of table line) ∙ ap ordering_reverse (greater_from_test (key_cmp (key_of table line) key) passes)) (filter above lines) (filter_passes above lines) in
-        let put_across : All (λ line. All (R line) put) (filter below lines) = All-weaker (λ line. key_cmp (key_of table line) key ≡ Less) (λ line. All (R line) put) (λ line less. All-weaker (λ other. key_of table other ≡ key) (R line) (λ other at. ap (key_cmp (key_of table line)) at ∙ less) put at_key) (filter below lines) all_below in
-        let above_across : All (λ line. All (R line) (filter above lines)) (filter below lines) = All-weaker (λ line. key_cmp (key_of table line) key ≡ Less) (λ line. All (R line) (filter above lines)) (λ line less. All-weaker (λ other. key_cmp key (key_of table other) ≡ Less) (R line) (λ other more. order.trans (key_of table line) key (key_of table other) less more) (filter above lines) all_above) (filter below lines) all_below in
-        let put_above : All (λ line. All (R line) (filter above lines)) put = All-weaker (λ line. key_of table line ≡ key) (λ line. All (R line) (filter above lines)) (λ line at. All-weaker (λ other. key_cmp key (key_of table other) ≡ Less) (R line) (λ other more. ap (λ k. key_cmp k (key_of table other)) at ∙ more) (filter above lines) all_above) put at_key in
-        AllPairs-append R (filter below lines ++ put) (filter above lines) (AllPairs-append R (filter below lines) put (AllPairs-filter R below lines rising) put_rises put_across) (AllPairs-filter R above lines rising) (All-append (λ line. All (R line) (filter above lines)) (filter below lines) put above_across put_above)
+        let below_put = across IsBelow IsAt (λ line other less at. ap (key_cmp (key_of table line)) at ∙ less) below put all_below at_key in
+        let below_above = across IsBelow IsAbove (λ line other. nat_list_cmp_total.trans (key_of table line) key (key_of table other)) below above all_below all_above in
+        let put_above = across IsAt IsAbove (λ line other at more. ap (λ k. key_cmp k (key_of table other)) at ∙ more) put above at_key all_above in
+        let front = AllPairs-append R below put (AllPairs-filter R (λ line. is_lt (key_cmp (key_of table line) key)) lines rising) put_rises below_put in
+        let back = AllPairs-filter R (λ line. is_gt (key_cmp (key_of table line) key)) lines rising in
+        AllPairs-append R (below ++ put) above front back (All-append (λ line. All (R line) above) below put below_above put_above)
 
     -- and a table stays one
     pub IsTable-replaced : IsTable table lines → All (IsLine (kind_in table)) put → All (λ line. key_of table line ≡ key) put → AllPairs (KeysRise table) put → length (replaced table key put lines) ≤ limit_of table → IsTable table (replaced table key put lines)
     IsTable-replaced is lines_put at_key put_rises within =
-        let below = λ (line : List ℕ). is_lt (key_cmp (key_of table line) key) in
-        let above = λ (line : List ℕ). is_gt (key_cmp (key_of table line) key) in
         let P = IsLine (kind_in table) in
+        let front = All-append P below put (All-filter (λ line. is_lt (key_cmp (key_of table line) key)) P lines is.each) lines_put in
+        let back = All-filter (λ line. is_gt (key_cmp (key_of table line) key)) P lines is.each in
         record {
-          each = All-append P (filter below lines ++ put) (filter above lines) (All-append P (filter below lines) put (All-filter below P lines is.each) lines_put) (All-filter above P lines is.each);
+          each = All-append P (below ++ put) above front back;
           rising = rising-replaced is.rising at_key put_rises;
           within = within;
         }

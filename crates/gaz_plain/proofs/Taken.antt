@@ -11,7 +11,7 @@ use Rattle.gaz_num.specs.Pieces.{column}
 use Rattle.gaz_num.specs.Check.{reason_against, key_in}
 use Rattle.gaz_plain.specs.Gazetteer.{Gazetteer, LineFault, malformed, full, IsLine, IsGazetteer, limit_of, with_lines, table_of, replaced, step_at, step, if_within, after_check, after_line}
 use Rattle.gaz_plain.specs.Places.{IsIdOf}
-use Rattle.gaz_plain.specs.Laws.{IsOf}
+use Rattle.gaz_plain.specs.Laws.{IsGazetteerOf}
 use Rattle.gaz_plain.specs.declared.row_list.PutFault.{PutFault}
 use Rattle.gaz_plain.specs.declared.row_list.PutFault.TheVariants as cause
 use Rattle.gaz_plain.specs.Faults.{IsFaultOf, fault_of}
@@ -67,7 +67,7 @@ module _ (gaz : Gazetteer) (line : List ℕ) (id : ℕ) where
   row_deleted is keyed within = accepted gaz RowDelete line is ∙ ap (if_within Rows) (step_delete keyed) ∙ fits (with_rows gaz left) within
 
   module _ (is_gazetteer : IsGazetteer gaz) (some : IsSome gaz.date) where
-    of_date : IsOf gaz.date gaz
+    of_date : IsGazetteerOf gaz.date gaz
     of_date = record { is_gazetteer = is_gazetteer; has_date = refl }
 
     pub put_is : IsLine Row line → IsIdOf id line → length put ≤ limit_of Rows → IsGazetteer (with_rows gaz put)

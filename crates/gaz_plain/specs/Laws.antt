@@ -10,25 +10,25 @@ use Rattle.gaz_plain.specs.Fold.{File, fold, part}
 use Rattle.gaz_plain.specs.Load.{Files, load, day}
 
 -- A gazetteer with this date.
-pub record IsOf (date : Option ℕ) (gaz : Gazetteer) : Type 0 where
+pub record IsGazetteerOf (date : Option ℕ) (gaz : Gazetteer) : Type 0 where
   pub is_gazetteer : IsGazetteer gaz
   pub has_date : gaz.date ≡ date
 
 -- What a fold makes of a gazetteer with a date is a gazetteer with that date.
 abbrev pub FoldKeeps : Type 0
-FoldKeeps = (gaz : Gazetteer) (files : List File) → IsGazetteer gaz → IsSome gaz.date → IfOk (fold gaz files) (IsOf gaz.date)
+FoldKeeps = (gaz : Gazetteer) (files : List File) → IsGazetteer gaz → IsSome gaz.date → IfOk (fold gaz files) (IsGazetteerOf gaz.date)
 
 -- So it is where the fold was stopped after n lines.
 abbrev pub PartKeeps : Type 0
-PartKeeps = (gaz : Gazetteer) (files : List File) (n : ℕ) → IsGazetteer gaz → IsSome gaz.date → IfOk (part gaz files n) (IsOf gaz.date)
+PartKeeps = (gaz : Gazetteer) (files : List File) (n : ℕ) → IsGazetteer gaz → IsSome gaz.date → IfOk (part gaz files n) (IsGazetteerOf gaz.date)
 
 -- What a load makes is a gazetteer with the date of the load.
 abbrev pub LoadGives : Type 0
-LoadGives = (shelf : Files) (date : ℕ) → IfOk (load shelf date) (IsOf (Some date))
+LoadGives = (shelf : Files) (date : ℕ) → IfOk (load shelf date) (IsGazetteerOf (Some date))
 
 -- What a day makes of a gazetteer is a gazetteer with the date of the day.
 abbrev pub DayGives : Type 0
-DayGives = (gaz : Gazetteer) (shelf : Files) (date : ℕ) → IsGazetteer gaz → IfOk (day gaz shelf date) (IsOf (Some date))
+DayGives = (gaz : Gazetteer) (shelf : Files) (date : ℕ) → IsGazetteer gaz → IfOk (day gaz shelf date) (IsGazetteerOf (Some date))
 
 -- A day that was accepted is refused by its date when it comes again, whatever its files are then.
 abbrev pub DayTwice : Type 0
