@@ -7,3 +7,4 @@ pub mod Pieces
 pub mod Reading
 pub mod Rests
 pub mod Shelves
+pub mod Told
