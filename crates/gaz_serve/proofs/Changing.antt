@@ -15,7 +15,7 @@ use Rattle.gaz_serve.specs.Change.{Gives, Opened}
 use Rattle.gaz_plain.proofs.Folds.{fold-append}
 use Rattle.gaz_serve.proofs.Folding.{file_of}
 
-always : {A : Type 0} {P : A → Type 0} (o : Option A) → ((x : A) → P x) → IfSome o P
+pub always : {A : Type 0} {P : A → Type 0} (o : Option A) → ((x : A) → P x) → IfSome o P
 always None f = tt
 always (Some x) f = f x
 
@@ -128,7 +128,7 @@ known_name : (name : List ℕ) (files : Files) (bytes : Option (List ℕ)) → f
 known_name name files None is some = absurd (cc)
 known_name name files (Some text) is some = (text, is)
 
-both_known : {A B C : Files → Type 0} (known : Option Files) → IfSome known A → IfSome known B → ((files : Files) → A files → B files → C files) → IfSome known C
+pub both_known : {A B C : Files → Type 0} (known : Option Files) → IfSome known A → IfSome known B → ((files : Files) → A files → B files → C files) → IfSome known C
 both_known None a b f = tt
 both_known (Some files) a b f = f files a b
 
