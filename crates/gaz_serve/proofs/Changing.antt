@@ -19,7 +19,7 @@ pub always : {A : Type 0} {P : A → Type 0} (o : Option A) → ((x : A) → P x
 always None f = tt
 always (Some x) f = f x
 
-weaker : {X : Type 0} {A B : X → Type 0} (o : Option X) → ((x : X) → A x → B x) → IfSome o A → IfSome o B
+pub weaker : {X : Type 0} {A B : X → Type 0} (o : Option X) → ((x : X) → A x → B x) → IfSome o A → IfSome o B
 weaker None f h = tt
 weaker (Some x) f h = f x h
 

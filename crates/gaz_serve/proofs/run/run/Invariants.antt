@@ -1,0 +1,22 @@
+use Rattle.std.proofs.Common.{◌≡◌}
+use Rattle.std.specs.Prelude.{IfSome, []}
+use Rattle.gaz_outside.specs.Outside.{SameFiles, left_of, files_of, printed_of}
+use Rattle.gaz_lines.specs.Cutter.{rest, HasEnded, MayReadSource, line_limit_of, allowed_of}
+use Rattle.gaz_serve.proofs.Running.{UnderWay}
+use Rattle.gaz_serve.proofs.run.run.Given as goal
+
+abbrev pub invariant-loop-line : goal.invariant-loop-line
+invariant-loop-line g l = record {
+  way : IfSome (files_of (g.F.Shelf.view l.fn.shelf)) (λ files. UnderWay files (left_of (g.S.Source.view l.fn.source)) (rest l.cutter (left_of (g.S.Source.view l.source))) l.session
+      (g.F.Shelf.view l.fn.shelf).faults (g.F.Shelf.view l.shelf).faults (printed_of (g.T.Station.view l.fn.station)) (printed_of (g.T.Station.view l.station)));
+  line_limit : line_limit_of l.cutter ≡ 4096;
+  reads : MayReadSource l.cutter;
+  ended : HasEnded l.cutter → IfSome (left_of (g.S.Source.view l.source)) (λ bytes. bytes ≡ []);
+  same : SameFiles (g.F.Shelf.view l.fn.shelf) (g.F.Shelf.view l.shelf);
+  source : (g.S.Source.view l.source).faults ≡ (g.S.Source.view l.fn.source).faults;
+  station : (g.T.Station.view l.station).faults ≡ (g.T.Station.view l.fn.station).faults;
+  told : (g.T.Station.view l.station).is_told ≡ (g.T.Station.view l.fn.station).is_told;
+}
+
+abbrev pub decreases-loop-line : goal.decreases-loop-line
+decreases-loop-line g l = allowed_of l.cutter

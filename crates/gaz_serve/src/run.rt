@@ -1,0 +1,68 @@
+//! A run of requests, one line of the source after another.
+ghost use Rattle.std.specs.Prelude.{◌≡◌, ◌≢◌, ◌⊎◌, ◌^◌, ◌∷◌, [], IfOk, IfSome, codes, vec_len};
+ghost use Rattle.gaz_outside.specs.Outside.{HasCause, Prints, RisesOnce, SameFiles, left_of, files_of, printed_of};
+ghost use Rattle.gaz_num.specs.Refusal.{request};
+ghost use Rattle.gaz_lines.specs.Cutter.{line_limit_of, file_limit_of, IsFresh};
+ghost use Rattle.gaz_reply.specs.Reply.{reply_text, refused};
+ghost use Rattle.gaz_serve.specs.Run.{at_first};
+ghost use Rattle.gaz_serve.specs.Ran.{RunAnswers};
+
+use crate::session::{EndFault, Session, answer};
+use gaz_lines::{LineCutter, LineFault};
+use gaz_outside::{Failed, Shelf, Source, Station};
+use gaz_reply::{Refusal, write_refusal};
+use gaz_words::BadRequest;
+
+/// Answers a request line that is longer than the longest.
+fn refuse_long<T: Station>(station: &mut T) -> Result<(), EndFault>
+    ensures printed { Prints (reply_text (refused (request (codes "length")))) (T.view station.old) (T.view station.new) result }
+    ensures told { (T.view station.new).is_told ≡ (T.view station.old).is_told }
+    ensures cause { HasCause (T.view station.old).faults (T.view station.new).faults result }
+{
+    match write_refusal(station, &Refusal::Request(BadRequest::Length.word())) {
+        Ok(()) => Ok(()),
+        Err(Failed) => Err(EndFault::Station),
+    }
+}
+
+/// Answers the lines of the source, one after another, and answers the status.
+pub(crate) fn run<S: Source, F: Shelf, T: Station>(
+    session: &mut Session,
+    source: &mut S,
+    shelf: &mut F,
+    station: &mut T,
+    cutter: &mut LineCutter,
+) -> u8
+    requires first { session.old ≡ at_first }
+    requires line_limit { line_limit_of cutter.old ≡ 4096 }
+    requires file_limit { file_limit_of cutter.old ≡ 2 ^ 40 }
+    requires fresh { IsFresh cutter.old }
+    ensures answers { IfSome (files_of (F.view shelf.old)) (λ files.
+        RunAnswers files (left_of (S.view source.old)) (F.view shelf.old).faults (F.view shelf.new).faults (printed_of (T.view station.old)) (printed_of (T.view station.new)) result) }
+    ensures emptied { result ≡ 0 → IfSome (left_of (S.view source.new)) (λ bytes. bytes ≡ []) }
+    ensures same { SameFiles (F.view shelf.old) (F.view shelf.new) }
+    ensures station { result ≡ 3 → RisesOnce (T.view station.old).faults (T.view station.new).faults }
+    ensures station_kept { result ≢ 3 → (T.view station.new).faults ≡ (T.view station.old).faults }
+    ensures source { result ≡ 4 → RisesOnce (S.view source.old).faults (S.view source.new).faults }
+    ensures source_kept { result ≢ 4 → (S.view source.new).faults ≡ (S.view source.old).faults }
+    ensures told { (T.view station.new).is_told ≡ (T.view station.old).is_told }
+    ensures others { (result ≡ 0) ⊎ (result ≡ 3) ⊎ (result ≡ 4) ⊎ (result ≡ 7) }
+{
+    loop {
+        match cutter.next_source(source) {
+            Ok(Some(line)) => {
+                if let Err(EndFault::Station) = answer(session, shelf, station, line) {
+                    return 3;
+                }
+            }
+            Err(LineFault::TooLong(_)) => {
+                if let Err(EndFault::Station) = refuse_long(station) {
+                    return 3;
+                }
+            }
+            Ok(None) => return 0,
+            Err(LineFault::FileTooLong) => return 7,
+            Err(LineFault::Failed) => return 4,
+        }
+    }
+}
