@@ -1,0 +1,67 @@
+#!/usr/bin/env bash
+# `serve` over a folder of files, through standard input and output: what it prints, and with which status.
+set -u
+. "$(dirname "$0")/lib/expect.bash"
+
+cd "$folder" || exit 1
+{ row 1 A 1; echo; row 2 B 2; echo; row 3 C 3; echo; } > allCountries.txt
+{ row 2 X 9; echo; } > modifications-2024-03-02.txt
+printf '3\tC\tgone\n' > deletes-2024-03-02.txt
+
+expect no_requests 0 '' serve < /dev/null
+expect a_load_and_a_get 0 $'ok load 2024-03-01\n'"$(row 2 B 2)"$'\nok 1\nok 0\n' serve <<< $'load 2024-03-01\nget 2\nget 4'
+expect no_lf_at_the_end 0 $'refused notloaded\n' serve < <(printf 'get 1')
+expect a_day 0 $'ok load 2024-03-01\nok day 2024-03-02\n'"$(row 2 X 9)"$'\nok 1\nok 0\n' serve <<< $'load 2024-03-01\nday 2024-03-02\nget 2\nget 3'
+expect a_long_request 0 $'refused request length\nrefused notloaded\n' serve < <(head -c 4097 /dev/zero | tr '\0' g; printf '\nget 1\n')
+expect a_request_that_just_fits 0 $'refused request verb\n' serve < <(head -c 4096 /dev/zero | tr '\0' g)
+expect bytes_that_are_no_text 0 $'refused request utf8\n' serve < <(printf 'get \xff\n')
+expect no_file 0 $'ok load 2024-03-02\nrefused absent modifications-2024-03-03.txt\n' serve <<< $'load 2024-03-02\nday 2024-03-03'
+mkdir modifications-2024-03-03.txt
+expect a_folder_in_place_of_a_file 0 $'ok load 2024-03-02\nrefused shelf modifications-2024-03-03.txt\n' serve <<< $'load 2024-03-02\nday 2024-03-03'
+rmdir modifications-2024-03-03.txt
+expect words_behind_serve 2 '' serve now < /dev/null
+
+# Ten days in one run, over a leap day and a turn of the month.
+requests=$'load 2024-02-25\n'
+replies=$'ok load 2024-02-25\n'
+for day in 2024-02-26 2024-02-27 2024-02-28 2024-02-29 2024-03-01 2024-03-02 2024-03-03 2024-03-04 2024-03-05 2024-03-06; do
+    { row 2 "$day" 7; echo; } > "modifications-$day.txt"
+    : > "deletes-$day.txt"
+    requests+="day $day"$'\nget 2\n'
+    replies+="ok day $day"$'\n'"$(row 2 "$day" 7)"$'\nok 1\n'
+done
+expect ten_days 0 "$replies" serve <<< "${requests%$'\n'}"
+
+# A reply comes before the next request is sent.
+mkfifo in out
+timeout 10 "$program" serve < in > out &
+exec 3> in 4< out
+answers=
+for request in 'load 2024-03-01' 'get 3' 'what'; do
+    printf '%s\n' "$request" >&3
+    read -r -t 5 -u 4 answer || answer=none
+    answers+="$answer;"
+    case $request in get*) read -r -t 5 -u 4 answer || answer=none; answers+="$answer;" ;; esac
+done
+exec 3>&- 4<&-
+wait
+check each_reply_at_once "$answers" "ok load 2024-03-01;$(row 3 C 3);ok 1;refused request verb;"
+
+"$program" serve <<< 'get 1' > /dev/full
+check a_full_device "$?" 3
+expect a_folder_as_input 4 '' serve < "$folder"
+
+# A real extract under the name of the dump, where Debian's libtimezonemap-data has put one, and a made day over it.
+cities=/usr/share/libtimezonemap/ui/cities15000.txt
+if [ -r "$cities" ]; then
+    mkdir real && cd real
+    cp "$cities" allCountries.txt
+    grep -P '^2988507\t' "$cities" | sed 's/\tParis\tParis\t/\tParis\tPARIS\t/' > modifications-2024-03-02.txt
+    printf '3040051\tles Escaldes\tmade\n' > deletes-2024-03-02.txt
+    expect a_real_extract_and_a_day 0 $'ok load 2024-03-01\n'"$(grep -P '^2988507\t' "$cities")"$'\nok 1\nok day 2024-03-02\n'"$(cat modifications-2024-03-02.txt)"$'\nok 1\nok 0\n' \
+        serve <<< $'load 2024-03-01\nget 2988507\nday 2024-03-02\nget 2988507\nget 3040051'
+else
+    echo "skipped: no $cities (Debian's libtimezonemap-data)"
+fi
+
+finish
