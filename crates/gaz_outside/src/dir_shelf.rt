@@ -68,7 +68,7 @@ fn open_file<R: Files>(rt: &R, name: &str) -> io::Result<Option<R::File>> {
 }
 
 /// Hands on what one read at `at` gives, also a short one. Only an interrupted read is tried again.
-fn read_at_once<F: FileExt>(file: &F, buf: &mut [u8], at: u64) -> io::Result<usize>
+pub(crate) fn read_at_once<F: FileExt>(file: &F, buf: &mut [u8], at: u64) -> io::Result<usize>
     ensures count { IfOk result (λ n. n ≤ length buf.old) }
     ensures retried { IfErr result (λ e. error_kind e ≢ ErrorKind.Interrupted) }
 {

@@ -1,0 +1,57 @@
+//! Devices in memory, and what stops leave of them.
+use crate::{Area, Failed, MemStation, Station};
+use std::alloc::Global;
+use std::process::Abort;
+use std::test::Fail;
+
+/// A device whose root was synced as `abc` and then written three times: `DE` at 1, `F` at 5, `G` at 0.
+fn written_three_times(rt: &impl Abort, alloc: Global) -> MemStation {
+    let mut station = MemStation::new(alloc, Vec::new(alloc));
+    let calls = [
+        station.write_at(Area::Root, 0, b"abc"),
+        station.sync(Area::Root),
+        station.write_at(Area::Root, 1, b"DE"),
+        station.write_at(Area::Root, 5, b"F"),
+        station.write_at(Area::Root, 0, b"G"),
+        station.print(b"ok\n"),
+    ];
+    assert!(rt; calls.iter().all(|call| call.is_ok()));
+    station
+}
+
+#[test]
+fn stops_keep_a_front_of_the_writes(rt: HostRuntime) -> Result<(), Fail> {
+    let alloc = rt.alloc();
+    let station = written_three_times(&rt, alloc);
+    assert_eq!(rt; station.area(Area::Root), b"GDE\0\0F".as_slice());
+    let cases: [(u64, u8, &[u8]); 6] = [
+        (0, 0, b"a\0\0"),
+        (0, 1, b"a\x01\x01"),
+        (1, 255, b"aDE\0\0\xff"),
+        (2, 0, b"\0DE\0\0F"),
+        (2, 1, b"\x01DE\0\0F"),
+        (3, 255, b"GDE\0\0F"),
+    ];
+    for (keep, fill, bytes) in cases {
+        let after = station.after_stop(keep, fill)?;
+        assert_eq!(rt; after.area(Area::Root), bytes, "{keep} kept, {fill} filled");
+        assert_eq!(rt; after.area(Area::Log), b"".as_slice());
+        assert_eq!(rt; after.printed(), b"ok\n".as_slice());
+    }
+    Ok(())
+}
+
+#[test]
+fn calls_fail_from_the_stop_on(rt: HostRuntime) -> Result<(), Fail> {
+    let alloc = rt.alloc();
+    let mut station = MemStation::new(alloc, Vec::new(alloc));
+    assert_eq!(rt; station.write_at(Area::Left, 2, b"x"), Ok(()));
+    station.stop_after(1);
+    assert_eq!(rt; station.len(Area::Left), Ok(3));
+    assert_eq!(rt; station.write_at(Area::Left, 0, b"y"), Err(Failed));
+    assert_eq!(rt; station.print(b"z"), Err(Failed));
+    assert_eq!(rt; station.area(Area::Left), b"\0\0x".as_slice());
+    assert_eq!(rt; station.printed(), b"".as_slice());
+    assert_eq!(rt; station.starved(), 0);
+    Ok(())
+}
