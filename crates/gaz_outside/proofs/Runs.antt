@@ -1,7 +1,7 @@
 -- How a run of calls on a station goes on.
 use Rattle.std.proofs.Common.{Bool, IsTrue, ◌≡◌, ◌≢◌, ◌⊎◌, inl, inr, ⊎_elim, ℕ, List, refl, sym, ◌∙◌, subst, arith}
 use Rattle.gaz_outside.specs.declared.station.Area.{Area}
-use Rattle.gaz_outside.specs.Station.{StationView, Outcome, Leaves, Elapses, Stays, Writes, Torn, LeavesOnly, Near, Confined, AnyIn, AreaStays, AreasStay, Appends, TornInTwo}
+use Rattle.gaz_outside.specs.Station.{StationView, Outcome, Leaves, Elapses, Stays, Writes, Torn, LeavesOnly, Near, Confined, AnyIn, AreaStays, AreasStay, LeavesAreas, Appends, TornInTwo}
 use Rattle.gaz_outside.specs.SameArea.{which}
 use Rattle.gaz_outside.proofs.TornWrites.{torn_none}
 
@@ -163,14 +163,34 @@ two_second first at n second from m apart old mid new so_far writes =
 pub area_stays_on : (old mid new : StationView) (a : Area) → AreaStays old mid a → AreaStays mid new a → AreaStays old new a
 area_stays_on old mid new a first next = record { bytes = next.bytes ∙ first.bytes; outcomes = λ c may. first.outcomes c (next.outcomes c may) }
 
+-- Time goes on over two calls.
+elapses_on : (old mid new : StationView) (P Q : Outcome → Type 0) → Elapses old mid P → Elapses mid new Q → ((c : Outcome) → Q c → P c) → Elapses old new P
+elapses_on old mid new P Q first next here = record {
+  later = omega (arith, first.later, next.later);
+  nothing_else = λ t c le left. ⊎_elim (first.nothing_else t c le) (λ q. inr (here c q)) (next.nothing_else t c (omega (arith, le, first.later)) left);
+  keeps = λ t c le left. next.keeps t c (omega (arith, le, first.later)) (first.keeps t c le left);
+}
+
 pub areas_stay_same : (v : StationView) → AreasStay v v
-areas_stay_same v = record { each = λ told a. record { bytes = refl; outcomes = λ c may. may } }
+areas_stay_same v = record {
+  each = λ told a. record { bytes = refl; outcomes = λ c may. may };
+  time = λ told. record { later = omega arith; nothing_else = λ t c le left. inl left; keeps = λ t c le left. left };
+}
 
 pub areas_stay_on : (old mid new : StationView) → mid.is_told ≡ old.is_told → AreasStay old mid → AreasStay mid new → AreasStay old new
 areas_stay_on old mid new same first next = record {
   each = λ told a. area_stays_on old mid new a (first.each told a) (next.each (subst (λ (b : Bool). IsTrue b) (sym same) told) a);
+  time = λ told. elapses_on old mid new (LeavesAreas old) (LeavesAreas mid) (first.time told) (next.time (subst (λ (b : Bool). IsTrue b) (sym same) told))
+      (λ c leaves a. (first.each told a).outcomes (c.areas a) (leaves a));
 }
 
 -- A print leaves the areas.
 pub areas_stay_print : (piece : List ℕ) (old new : StationView) → (IsTrue old.is_told → Appends piece old new) → AreasStay old new
-areas_stay_print piece old new appends = record { each = λ told a. (appends told).areas a }
+areas_stay_print piece old new appends = record {
+  each = λ told a. (appends told).areas a;
+  time = λ told. let p = appends told in record {
+    later = p.time.later;
+    nothing_else = λ t c le left. ⊎_elim (λ past. inl past) (λ front. inr (λ a. (p.areas a).outcomes (c.areas a) (front.areas a))) (p.time.nothing_else t c le left);
+    keeps = p.time.keeps;
+  };
+}

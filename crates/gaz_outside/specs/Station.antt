@@ -67,9 +67,14 @@ pub record AreaStays (old new : StationView) (a : Area) : Type 0 where
   pub bytes : new.bytes a ≡ old.bytes a
   pub outcomes : (c : List ℕ) → new.may_leave a c → old.may_leave a c
 
--- Where bytes are told, every area stays.
+-- what a stop leaves of each area is an outcome of v
+abbrev pub LeavesAreas : StationView → Outcome → Type 0
+LeavesAreas v c = (a : Area) → v.may_leave a (c.areas a)
+
+-- Where bytes are told, every area stays, and a stop at no moment leaves more of the areas than before.
 pub record AreasStay (old new : StationView) : Type 0 where
   pub each : IsTrue old.is_told → (a : Area) → AreaStays old new a
+  pub time : IsTrue old.is_told → Elapses old new (LeavesAreas old)
 
 -- nothing that is told changes
 pub record Stays (old new : StationView) : Type 0 where

@@ -1,6 +1,7 @@
 //! Refusals.
 ghost use Rattle.std.specs.Prelude.{◌≡◌, ◌≤◌, ◌+◌, ◌++◌, ◌∷◌, [], codes, decimal, length};
 ghost use Rattle.gaz_outside.specs.Outside.{HasCause, Prints};
+ghost use Rattle.gaz_outside.specs.Station.{AreasStay};
 ghost use Rattle.gaz_num.specs.Words.{file_text};
 ghost use Rattle.gaz_reply.specs.Line.{text_of};
 ghost use Rattle.gaz_reply.specs.Reply.{reply_text, refused, refusal_of};
@@ -38,6 +39,7 @@ pub enum Refusal<'a> {
 fn print_bad_word<T: Station>(station: &mut T, word: &str) -> Result<(), Failed>
     ensures printed { Prints (codes "refused request " ++ word.now ++ codes "\n") (T.view station.old) (T.view station.new) result }
     ensures told { (T.view station.new).is_told ≡ (T.view station.old).is_told }
+    ensures areas { AreasStay (T.view station.old) (T.view station.new) }
     ensures cause { HasCause (T.view station.old).faults (T.view station.new).faults result }
 {
     match print_two(station, b"refused request ", word.as_bytes()) {
@@ -62,6 +64,7 @@ fn print_file<T: Station>(station: &mut T, front: &[u8], file: FileName) -> Resu
     requires { length front.now ≤ 32 }
     ensures printed { Prints (front.now ++ file_text file ++ codes "\n") (T.view station.old) (T.view station.new) result }
     ensures told { (T.view station.new).is_told ≡ (T.view station.old).is_told }
+    ensures areas { AreasStay (T.view station.old) (T.view station.new) }
     ensures cause { HasCause (T.view station.old).faults (T.view station.new).faults result }
 {
     let mut line = Line::new();
@@ -83,6 +86,7 @@ fn print_line<T: Station>(
     requires word { length word.now ≤ 16 }
     ensures printed { Prints (front.now ++ file_text file ++ codes " " ++ decimal number ++ codes " " ++ word.now ++ codes "\n") (T.view station.old) (T.view station.new) result }
     ensures told { (T.view station.new).is_told ≡ (T.view station.old).is_told }
+    ensures areas { AreasStay (T.view station.old) (T.view station.new) }
     ensures cause { HasCause (T.view station.old).faults (T.view station.new).faults result }
 {
     let mut buffer = Buffer::new();
@@ -101,6 +105,7 @@ fn print_line<T: Station>(
 pub fn write_refusal<T: Station>(station: &mut T, refusal: &Refusal<'_>) -> Result<(), Failed>
     ensures printed { Prints (reply_text (refused (refusal_of refusal.now))) (T.view station.old) (T.view station.new) result }
     ensures told { (T.view station.new).is_told ≡ (T.view station.old).is_told }
+    ensures areas { AreasStay (T.view station.old) (T.view station.new) }
     ensures cause { HasCause (T.view station.old).faults (T.view station.new).faults result }
 {
     match *refusal {

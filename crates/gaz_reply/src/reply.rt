@@ -1,6 +1,7 @@
 //! Lines and acknowledgements.
 ghost use Rattle.std.specs.Prelude.{◌≡◌, ◌≤◌, ◌++◌, ◌∷◌, [], codes, length};
 ghost use Rattle.gaz_outside.specs.Outside.{HasCause, Prints};
+ghost use Rattle.gaz_outside.specs.Station.{AreasStay};
 ghost use Rattle.gaz_num.specs.Dates.{date_text};
 ghost use Rattle.gaz_reply.specs.Reply.{reply_text, with_ends, end_line, done};
 
@@ -26,6 +27,7 @@ pub(crate) fn print_two<T: Station>(
 ) -> Result<(), Failed>
     ensures printed { Prints (first.now ++ second.now) (T.view station.old) (T.view station.new) result }
     ensures told { (T.view station.new).is_told ≡ (T.view station.old).is_told }
+    ensures areas { AreasStay (T.view station.old) (T.view station.new) }
     ensures cause { HasCause (T.view station.old).faults (T.view station.new).faults result }
 {
     match station.print(first) {
@@ -43,6 +45,7 @@ pub(crate) fn print_dated<T: Station>(
     requires { length front.now ≤ 32 }
     ensures printed { Prints (front.now ++ date_text date ++ codes "\n") (T.view station.old) (T.view station.new) result }
     ensures told { (T.view station.new).is_told ≡ (T.view station.old).is_told }
+    ensures areas { AreasStay (T.view station.old) (T.view station.new) }
     ensures cause { HasCause (T.view station.old).faults (T.view station.new).faults result }
 {
     let mut line = Line::new();
@@ -56,6 +59,7 @@ pub(crate) fn print_dated<T: Station>(
 pub fn write_row<T: Station>(station: &mut T, line: &[u8]) -> Result<(), Failed>
     ensures printed { Prints (with_ends (line.now ∷ [])) (T.view station.old) (T.view station.new) result }
     ensures told { (T.view station.new).is_told ≡ (T.view station.old).is_told }
+    ensures areas { AreasStay (T.view station.old) (T.view station.new) }
     ensures cause { HasCause (T.view station.old).faults (T.view station.new).faults result }
 {
     print_two(station, line, b"\n")
@@ -65,6 +69,7 @@ pub fn write_row<T: Station>(station: &mut T, line: &[u8]) -> Result<(), Failed>
 pub fn write_end<T: Station>(station: &mut T, rows: u64) -> Result<(), Failed>
     ensures printed { Prints (with_ends (end_line rows ∷ [])) (T.view station.old) (T.view station.new) result }
     ensures told { (T.view station.new).is_told ≡ (T.view station.old).is_told }
+    ensures areas { AreasStay (T.view station.old) (T.view station.new) }
     ensures cause { HasCause (T.view station.old).faults (T.view station.new).faults result }
 {
     let mut buffer = Buffer::new();
@@ -79,6 +84,7 @@ pub fn write_end<T: Station>(station: &mut T, rows: u64) -> Result<(), Failed>
 pub fn write_done<T: Station>(station: &mut T, change: Done) -> Result<(), Failed>
     ensures printed { Prints (reply_text (done change)) (T.view station.old) (T.view station.new) result }
     ensures told { (T.view station.new).is_told ≡ (T.view station.old).is_told }
+    ensures areas { AreasStay (T.view station.old) (T.view station.new) }
     ensures cause { HasCause (T.view station.old).faults (T.view station.new).faults result }
 {
     match change {

@@ -2,6 +2,7 @@
 use Rattle.std.specs.Prelude.{◌≡◌, ◌≢◌, ℕ, ◌+◌, ◌-◌, ◌^◌, ◌⊎◌, min, Bool, true, false, List, [], ◌∷◌, ◌++◌, map, count_by, Option, IfSome}
 use Rattle.std.specs.Io.KnownBytes.{append_known}
 use Rattle.gaz_outside.specs.Outside.{SourceView, ShelfView, StationView, SameFiles, HasRisen, RisesOnce, IsPrefix, left_of, files_of, printed_of}
+use Rattle.gaz_outside.specs.Station.{AreasStay}
 use Rattle.gaz_plain.specs.Load.{Files}
 use Rattle.gaz_serve.specs.Run.{Turn, Verdict, plain, memory, shelf, at_first, IsLegal, replies, shelf_refusals}
 use Rattle.gaz_serve.specs.Serve.{Given}
@@ -80,4 +81,6 @@ pub record ServeRan {S F T : Type 0} (source : S → SourceView) (shelf : F → 
   pub source_failed : status ≡ 4 → RisesOnce (source old_source).faults (source new_source).faults
   pub source_kept : status ≢ 4 → (source new_source).faults ≡ (source old_source).faults
   pub told : (station new_station).is_told ≡ (station old_station).is_told
+  -- No area is called.
+  pub areas : AreasStay (station old_station) (station new_station)
   pub others : (status ≡ 0) ⊎ (status ≡ 3) ⊎ (status ≡ 4) ⊎ (status ≡ 5) ⊎ (status ≡ 7)

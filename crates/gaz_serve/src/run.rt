@@ -1,6 +1,7 @@
 //! A run of requests, one line of the source after another.
 ghost use Rattle.std.specs.Prelude.{◌≡◌, ◌≢◌, ◌⊎◌, ◌^◌, ◌∷◌, [], IfOk, IfSome, codes, vec_len};
 ghost use Rattle.gaz_outside.specs.Outside.{HasCause, Prints, RisesOnce, SameFiles, left_of, files_of, printed_of};
+ghost use Rattle.gaz_outside.specs.Station.{AreasStay};
 ghost use Rattle.gaz_num.specs.Refusal.{request};
 ghost use Rattle.gaz_lines.specs.Cutter.{line_limit_of, file_limit_of, IsFresh};
 ghost use Rattle.gaz_reply.specs.Reply.{reply_text, refused};
@@ -17,6 +18,7 @@ use gaz_words::BadRequest;
 fn refuse_long<T: Station>(station: &mut T) -> Result<(), EndFault>
     ensures printed { Prints (reply_text (refused (request (codes "length")))) (T.view station.old) (T.view station.new) result }
     ensures told { (T.view station.new).is_told ≡ (T.view station.old).is_told }
+    ensures areas { AreasStay (T.view station.old) (T.view station.new) }
     ensures cause { HasCause (T.view station.old).faults (T.view station.new).faults result }
 {
     match write_refusal(station, &Refusal::Request(BadRequest::Length.word())) {
@@ -46,6 +48,7 @@ pub(crate) fn run<S: Source, F: Shelf, T: Station>(
     ensures source { result ≡ 4 → RisesOnce (S.view source.old).faults (S.view source.new).faults }
     ensures source_kept { result ≢ 4 → (S.view source.new).faults ≡ (S.view source.old).faults }
     ensures told { (T.view station.new).is_told ≡ (T.view station.old).is_told }
+    ensures areas { AreasStay (T.view station.old) (T.view station.new) }
     ensures others { (result ≡ 0) ⊎ (result ≡ 3) ⊎ (result ≡ 4) ⊎ (result ≡ 7) }
 {
     loop {

@@ -1,6 +1,7 @@
 //! What stands between two requests, and the answer to one.
 ghost use Rattle.std.specs.Prelude.{◌≡◌, ◌∷◌, [], Ok, IfOk, IfSome, OnErr, option_to_list};
 ghost use Rattle.gaz_outside.specs.Outside.{HasCause, Prints, SameFiles, files_of};
+ghost use Rattle.gaz_outside.specs.Station.{AreasStay};
 ghost use Rattle.gaz_num.specs.declared.words.Table.TheVariants.{Rows};
 ghost use Rattle.gaz_plain.specs.Gazetteer.{line_with};
 ghost use Rattle.gaz_plain.specs.Load.{load, day, load_files, in_sequence};
@@ -124,6 +125,7 @@ impl Session {
     fn tell_place<T: Station>(&self, station: &mut T, id: u32) -> Result<(), Failed>
         ensures printed { Prints (reply_text (if_loaded self.now (rows (option_to_list (line_with Rows (id ∷ []) self.now.gaz))))) (T.view station.old) (T.view station.new) result }
         ensures told { (T.view station.new).is_told ≡ (T.view station.old).is_told }
+        ensures areas { AreasStay (T.view station.old) (T.view station.new) }
         ensures cause { HasCause (T.view station.old).faults (T.view station.new).faults result }
     {
         match self.gaz.date() {
@@ -141,6 +143,7 @@ fn tell_change<T: Station>(
 ) -> Result<(), Failed>
     ensures printed { Prints (reply_text (change_reply change made)) (T.view station.old) (T.view station.new) result }
     ensures told { (T.view station.new).is_told ≡ (T.view station.old).is_told }
+    ensures areas { AreasStay (T.view station.old) (T.view station.new) }
     ensures cause { HasCause (T.view station.old).faults (T.view station.new).faults result }
 {
     match made {
@@ -160,6 +163,7 @@ fn answer_request<F: Shelf, T: Station>(
     ensures closes { Closes (opens session.old (Ok request.now)) (F.view shelf.old) (F.view shelf.new) }
     ensures same { SameFiles (F.view shelf.old) (F.view shelf.new) }
     ensures told { (T.view station.new).is_told ≡ (T.view station.old).is_told }
+    ensures areas { AreasStay (T.view station.old) (T.view station.new) }
     ensures cause { HasCause (T.view station.old).faults (T.view station.new).faults result }
 {
     match request {
@@ -186,6 +190,7 @@ pub fn answer<F: Shelf, T: Station>(
     ensures closes { Closes (opens session.old (request_in line.now)) (F.view shelf.old) (F.view shelf.new) }
     ensures same { SameFiles (F.view shelf.old) (F.view shelf.new) }
     ensures told { (T.view station.new).is_told ≡ (T.view station.old).is_told }
+    ensures areas { AreasStay (T.view station.old) (T.view station.new) }
     ensures cause { HasCause (T.view station.old).faults (T.view station.new).faults result }
 {
     let told = match read_request(line) {

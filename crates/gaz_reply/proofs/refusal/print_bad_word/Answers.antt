@@ -1,6 +1,7 @@
 use Rattle.std.proofs.Common.{◌++◌, subst}
 use Rattle.std.specs.Prelude.{codes}
 use Rattle.gaz_outside.specs.Outside.{Prints, PrintsFront}
+use Rattle.gaz_outside.proofs.Runs.{areas_stay_on, areas_stay_print}
 use Rattle.gaz_reply.proofs.Pieces.{both, front}
 use Rattle.gaz_reply.proofs.refusal.print_bad_word.Goals as goal
 
@@ -13,3 +14,8 @@ pub returns-in-Err-clause-printed : goal.returns-in-Err-clause-printed
 returns-in-Err-clause-printed g c =
     subst (λ word. PrintsFront (codes "refused request " ++ word ++ codes "\n") (g.T.Station.view c.args.station.now) (g.T.Station.view c.print_two.new.station)) c.as_bytes.ensures.value
     (front (codes "refused request " ++ c.as_bytes.result.now) (codes "\n") _ _ c.in-Err.ensures.printed)
+
+pub returns-in-Ok-clause-areas : goal.returns-in-Ok-clause-areas
+returns-in-Ok-clause-areas g c =
+    areas_stay_on (g.T.Station.view c.args.station.now) (g.T.Station.view c.print_two.new.station) (g.T.Station.view c.print.new.self) c.in-Ok.ensures.told
+    c.in-Ok.ensures.areas (areas_stay_print _ _ _ c.print.ensures.appends)

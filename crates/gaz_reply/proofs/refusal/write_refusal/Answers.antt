@@ -1,5 +1,6 @@
 use Rattle.std.proofs.Common.{ap, refl, sym, subst, ◌++◌}
 use Rattle.std.specs.Prelude.{codes, decimal}
+use Rattle.gaz_outside.proofs.Runs.{areas_stay_print}
 use Rattle.gaz_num.specs.Refusal.{not_loaded, sequence, absent, shelf, too_long, malformed, full, memory}
 use Rattle.gaz_reply.specs.Reply.{refusal_of}
 use Rattle.gaz_reply.proofs.Texts.{sequence_text, absent_text, shelf_text, too_long_text, malformed_text, full_text, tells}
@@ -28,3 +29,9 @@ returns-in-Full-clause-printed g c = tells _ (full c.in-Full.file c.in-Full.numb
 
 pub returns-in-Memory-clause-printed : goal.returns-in-Memory-clause-printed
 returns-in-Memory-clause-printed g c = tells _ memory c.args.refusal.now _ _ c.print-in-Memory.result refl (ap refusal_of (sym c.in-Memory.is)) c.print-in-Memory.ensures.printed
+
+pub returns-in-NotLoaded-clause-areas : goal.returns-in-NotLoaded-clause-areas
+returns-in-NotLoaded-clause-areas g c = areas_stay_print _ _ _ c.print.ensures.appends
+
+pub returns-in-Memory-clause-areas : goal.returns-in-Memory-clause-areas
+returns-in-Memory-clause-areas g c = areas_stay_print _ _ _ c.print-in-Memory.ensures.appends

@@ -1,3 +1,4 @@
+use Rattle.gaz_outside.proofs.Runs.{areas_stay_on, areas_stay_print}
 use Rattle.gaz_reply.proofs.Pieces.{both, front}
 use Rattle.gaz_reply.proofs.reply.print_two.Goals as goal
 
@@ -6,3 +7,11 @@ returns-in-Ok-clause-printed g c = both c.args.first.now c.args.second.now _ _ _
 
 pub returns-in-Err-clause-printed : goal.returns-in-Err-clause-printed
 returns-in-Err-clause-printed g c = front c.args.first.now c.args.second.now _ _ c.in-Err.ensures.printed
+
+pub returns-in-Ok-clause-areas : goal.returns-in-Ok-clause-areas
+returns-in-Ok-clause-areas g c =
+    areas_stay_on (g.T.Station.view c.args.station.now) (g.T.Station.view c.print.new.self) (g.T.Station.view c.print-in-Ok.new.self) c.in-Ok.ensures.counts.told
+    (areas_stay_print c.args.first.now _ _ c.in-Ok.ensures.appends) (areas_stay_print c.args.second.now _ _ c.print-in-Ok.ensures.appends)
+
+pub returns-in-Err-clause-areas : goal.returns-in-Err-clause-areas
+returns-in-Err-clause-areas g c = areas_stay_print c.args.first.now _ _ c.in-Err.ensures.appends

@@ -1,6 +1,7 @@
 use Rattle.std.proofs.Common.{◌<◌, length, ◌∙◌, refl, sym, ap, subst, inl, inr, arith, true, false}
 use Rattle.std.proofs.lemmas.Bool.{false≢true}
 use Rattle.gaz_outside.specs.Outside.{left_of, printed_of}
+use Rattle.gaz_outside.proofs.Runs.{areas_stay_same, areas_stay_on}
 use Rattle.gaz_lines.specs.Cutter.{rest}
 use Rattle.gaz_lines.proofs.Told.{told_start}
 use Rattle.gaz_serve.specs.declared.session.EndFault.{EndFault}
@@ -20,6 +21,7 @@ loop-line-init g c = record {
   source = refl;
   station = refl;
   told = refl;
+  areas = areas_stay_same _;
 }
 
 pub returns-in-Ok-None-clause-answers : goal.returns-in-Ok-None-clause-answers
@@ -58,6 +60,7 @@ loop-line-preserved-in_default g c =
       source = c.in-Ok-Some.ensures.cause ∙ i.source;
       station = c.in_default.ensures.cause.kept ∙ i.station;
       told = c.answer.ensures.told ∙ i.told;
+      areas = areas_stay_on (g.T.Station.view c.args.station.now) (g.T.Station.view c.loop-line.station) (g.T.Station.view c.answer.new.station) i.told i.areas c.answer.ensures.areas;
     }
 
 pub returns-in-Err-Station-refuse_long-clause-answers : goal.returns-in-Err-Station-refuse_long-clause-answers
@@ -87,4 +90,15 @@ loop-line-preserved g c =
       source = (rw c.in-Err-TooLong.field-0-is at c.in-Err-TooLong.ensures.cause) ∙ i.source;
       station = c.in_default-refuse_long.ensures.cause.kept ∙ i.station;
       told = c.refuse_long.ensures.told ∙ i.told;
+      areas = areas_stay_on (g.T.Station.view c.args.station.now) (g.T.Station.view c.loop-line.station) (g.T.Station.view c.refuse_long.new.station) i.told i.areas c.refuse_long.ensures.areas;
     }
+
+pub returns-in-Err-Station-clause-areas : goal.returns-in-Err-Station-clause-areas
+returns-in-Err-Station-clause-areas g c =
+    let i = c.loop-line.invariant in
+    areas_stay_on (g.T.Station.view c.args.station.now) (g.T.Station.view c.loop-line.station) (g.T.Station.view c.answer.new.station) i.told i.areas c.answer.ensures.areas
+
+pub returns-in-Err-Station-refuse_long-clause-areas : goal.returns-in-Err-Station-refuse_long-clause-areas
+returns-in-Err-Station-refuse_long-clause-areas g c =
+    let i = c.loop-line.invariant in
+    areas_stay_on (g.T.Station.view c.args.station.now) (g.T.Station.view c.loop-line.station) (g.T.Station.view c.refuse_long.new.station) i.told i.areas c.refuse_long.ensures.areas

@@ -1,6 +1,7 @@
 use Rattle.std.proofs.Common.{◌≡◌}
 use Rattle.std.specs.Prelude.{IfSome, []}
 use Rattle.gaz_outside.specs.Outside.{SameFiles, left_of, files_of, printed_of}
+use Rattle.gaz_outside.specs.Station.{AreasStay}
 use Rattle.gaz_lines.specs.Cutter.{rest, HasEnded, MayReadSource, line_limit_of, allowed_of}
 use Rattle.gaz_serve.proofs.Running.{UnderWay}
 use Rattle.gaz_serve.proofs.run.run.Given as goal
@@ -16,6 +17,7 @@ invariant-loop-line g l = record {
   source : (g.S.Source.view l.source).faults ≡ (g.S.Source.view l.fn.source).faults;
   station : (g.T.Station.view l.station).faults ≡ (g.T.Station.view l.fn.station).faults;
   told : (g.T.Station.view l.station).is_told ≡ (g.T.Station.view l.fn.station).is_told;
+  areas : AreasStay (g.T.Station.view l.fn.station) (g.T.Station.view l.station);
 }
 
 abbrev pub decreases-loop-line : goal.decreases-loop-line

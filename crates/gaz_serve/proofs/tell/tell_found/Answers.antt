@@ -2,6 +2,7 @@ use Rattle.std.proofs.Common.{◌≡◌, ℕ, List, [], ◌∷◌, ◌++◌, ap,
 use Rattle.std.specs.Prelude.{option_to_list, option_copied}
 use Rattle.std.proofs.lemmas.List.{append-nil}
 use Rattle.gaz_outside.specs.Outside.{Prints, PrintsFront}
+use Rattle.gaz_outside.proofs.Runs.{areas_stay_on}
 use Rattle.gaz_reply.specs.Reply.{reply_text, rows, with_ends, end_line}
 use Rattle.gaz_reply.proofs.Pieces.{both, front}
 use Rattle.gaz_serve.proofs.tell.tell_found.Goals as goal
@@ -21,3 +22,8 @@ returns-in-Err-clause-printed g c =
     subst (λ text. PrintsFront text (g.T.Station.view c.args.station.now) (g.T.Station.view c.write_row.new.station))
     (one_row c.in-Some.line.now ∙ ap (λ l. reply_text (rows (option_to_list (option_copied l)))) (sym c.in-Some.is))
     (front (with_ends (c.in-Some.line.now ∷ [])) (with_ends (end_line 1 ∷ [])) _ _ c.in-Err.ensures.printed)
+
+pub returns-in-Ok-clause-areas : goal.returns-in-Ok-clause-areas
+returns-in-Ok-clause-areas g c =
+    areas_stay_on (g.T.Station.view c.args.station.now) (g.T.Station.view c.write_row.new.station) (g.T.Station.view c.write_end.new.station) c.in-Ok.ensures.told
+    c.in-Ok.ensures.areas c.write_end.ensures.areas

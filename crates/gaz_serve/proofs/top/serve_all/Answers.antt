@@ -1,5 +1,6 @@
 use Rattle.std.proofs.Common.{refl, subst, arith, inl, inr}
 use Rattle.gaz_outside.specs.Outside.{left_of, printed_of, files_of}
+use Rattle.gaz_outside.proofs.Runs.{areas_stay_same}
 use Rattle.gaz_serve.specs.Ran.{ServeRan, IsAnswered}
 use Rattle.gaz_serve.proofs.Changing.{weaker, always}
 use Rattle.gaz_serve.proofs.Answered.{answered, run_starved, with_starved, not_five}
@@ -20,6 +21,7 @@ returns-in-Ok g c =
       source_failed = e.source;
       source_kept = e.source_kept;
       told = e.told;
+      areas = e.areas;
       others = others;
     })
 
@@ -38,5 +40,6 @@ returns-in-Err-Memory g c =
       source_failed = λ is. absurd (omega (arith, is));
       source_kept = λ is. refl;
       told = refl;
+      areas = areas_stay_same _;
       others = inr (inr (inr (inl refl)));
     })
