@@ -1,6 +1,6 @@
 -- Turns, one behind the other, and the run that they make.
 use Rattle.std.proofs.Common.{◌≡◌, ◌≢◌, ℕ, zero, suc, ◌+◌, ◌-◌, ◌^◌, ◌<◌, ◌≤◌, Bool, true, false, cond, List, [], ◌∷◌, ◌++◌, length, refl, ap, arith, ◌⊎◌, inl, inr, Option, Some, None, append_assoc, ◌∙◌, sym, subst}
-use Rattle.std.specs.Prelude.{map, count_by, min, option_map, codes, nat_lt, IfSome, Result, Ok, Err, OnOk}
+use Rattle.std.specs.Prelude.{map, count_by, min, option_map, codes, nat_lt, IfSome, Result, Ok, Err}
 use Rattle.std.specs.List.{AllByRecursion}
 use Rattle.std.specs.Io.KnownBytes.{append_known}
 use Rattle.std.proofs.lemmas.Grind.{common_steps}
@@ -215,12 +215,8 @@ long_step files line state view station station_now result long printed = record
   may = tt;
   blamed = record { faults = refl; last = refl };
   printed = subst (λ r. Prints (reply_text (answer_to_read state files r).reply) station station_now result) (sym (long_request line long)) printed;
-  state_is = same_state_is result (sym (ap (λ r. (answer_to_read state files r).state) (long_request line long)));
+  state_is = sym (ap (λ r. (answer_to_read state files r).state) (long_request line long));
 }
-  where
-    same_state_is : {A E P : Type 0} (result : Result A E) → P → OnOk result P
-    same_state_is (Ok x) is = is
-    same_state_is (Err x) is = tt
 
 -- one more line was given, where the bytes are told
 pub line_told : (bytes : Option (List ℕ)) (given : List (List ℕ)) (line : List ℕ) (old new : Option Rest) → old ≡ option_map (onto (Some line)) new → IfSome bytes (λ text. Told 4096 given old text) → IfSome bytes (λ text. Told 4096 (given ++ line ∷ []) new text)

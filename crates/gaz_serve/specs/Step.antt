@@ -1,5 +1,5 @@
 -- What one request does, in the program.
-use Rattle.std.specs.Prelude.{◌≡◌, ⊤, ℕ, List, Result, Ok, Err, OnOk}
+use Rattle.std.specs.Prelude.{◌≡◌, ⊤, ℕ, List, Result, Ok, Err}
 use Rattle.gaz_outside.specs.Outside.{ShelfView, StationView, Prints}
 use Rattle.gaz_num.specs.declared.words.FileName.{FileName}
 use Rattle.gaz_num.specs.Refusal as refusal
@@ -56,4 +56,4 @@ pub record OneStep {A E : Type 0} (files : Files) (line : List ℕ) (state state
   pub may : MayBe verdict state files line
   pub blamed : IsBlamed verdict shelf shelf_now
   pub printed : Prints (reply_text (answer_by verdict state files line).reply) station station_now result
-  pub state_is : OnOk result (state_now ≡ (answer_by verdict state files line).state)
+  pub state_is : state_now ≡ (answer_by verdict state files line).state

@@ -179,7 +179,8 @@ fn answer_request<F: Shelf, T: Station>(
     }
 }
 
-/// Answers one request line, given without its LF, and prints the reply.
+/// Answers one request line, given without its LF, and prints the reply. After `Station` a front of the reply was
+/// printed, and the session is as after the whole reply.
 pub fn answer<F: Shelf, T: Station>(
     session: &mut Session,
     shelf: &mut F,
