@@ -1,0 +1,42 @@
+//! All images or none.
+ghost use Rattle.std.specs.Prelude.{◌≡◌, ◌+◌, ◌*◌, ◌<◌, ◌^◌, length, IsTrue, OnOk};
+ghost use Rattle.gaz_outside.specs.Outside.{HasCause};
+ghost use Rattle.gaz_outside.specs.Station.{Counts, LeavesOnly};
+ghost use Rattle.gaz_redo.specs.Slots.{slots_in, LeaveNoGap};
+ghost use Rattle.gaz_redo.specs.Content.{IsReady, IsCommitted, IsOldOrNew, are_images, are_tight};
+
+use crate::{Image, Images, log_images, place_images, set_gate};
+use gaz_outside::{Failed, Station};
+
+/// Lays the images over their areas, all of them or none, whenever it is stopped.
+pub fn commit<T: Station>(station: &mut T, images: &Images) -> Result<(), Failed>
+    requires { IsTrue (T.view station.old).is_told → IsReady (slots_in images.now.list.items) (T.view station.old) }
+    ensures committed { OnOk result (IsTrue (T.view station.old).is_told → IsCommitted (slots_in images.now.list.items) (T.view station.old) (T.view station.new)) }
+
+    // Where the images leave no gap, a stop at any moment leaves the old content, or the old one with the images laid over.
+    ensures any_moment { IsTrue (T.view station.old).is_told → LeaveNoGap (slots_in images.now.list.items) (T.view station.old).bytes
+        → LeavesOnly (T.view station.old) (T.view station.new) (IsOldOrNew (slots_in images.now.list.items) (T.view station.old)) }
+    ensures printed { IsTrue (T.view station.old).is_told → (T.view station.new).printed ≡ (T.view station.old).printed }
+    ensures counts { Counts 0 (3 * length images.now.list.items + 3) (T.view station.old) (T.view station.new) }
+    ensures cause { HasCause (T.view station.old).faults (T.view station.new).faults result }
+{
+    commit_list(station, &images.list)
+}
+
+fn commit_list<T: Station>(station: &mut T, images: &[Image]) -> Result<(), Failed>
+    requires valid { IsTrue (are_images (slots_in images.now)) }
+    requires few { length images.now < 2 ^ 40 }
+    requires ready { IsTrue (T.view station.old).is_told → IsReady (slots_in images.now) (T.view station.old) }
+    ensures committed { OnOk result (IsTrue (T.view station.old).is_told → IsCommitted (slots_in images.now) (T.view station.old) (T.view station.new)) }
+    ensures any_moment { IsTrue (T.view station.old).is_told → IsTrue (are_tight (slots_in images.now) (T.view station.old).bytes)
+        → LeavesOnly (T.view station.old) (T.view station.new) (IsOldOrNew (slots_in images.now) (T.view station.old)) }
+    ensures printed { IsTrue (T.view station.old).is_told → (T.view station.new).printed ≡ (T.view station.old).printed }
+    ensures counts { Counts 0 (3 * length images.now + 3) (T.view station.old) (T.view station.new) }
+    ensures cause { HasCause (T.view station.old).faults (T.view station.new).faults result }
+{
+    log_images(station, images)?;
+    set_gate(station, 1)?;
+    place_images(station, images)?;
+    set_gate(station, 0)?;
+    Ok(())
+}
