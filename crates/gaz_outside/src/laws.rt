@@ -44,6 +44,7 @@ pub fn write_unsynced<T: Station>(
     bytes: &[u8],
 ) -> Result<(), Failed>
     requires { at + length bytes.now < 2 ^ 64 }
+    ensures written { OnOk result (IsTrue (T.view station.old).is_told → (T.view station.new).bytes area ≡ overlaid ((T.view station.old).bytes area) at bytes.now) }
     ensures torn { IsTrue (T.view station.old).is_told → (c : Outcome) → (T.view station.new).left_since (T.view station.new).moment c → (d : List ℕ) × (T.view station.old).may_leave area d × Torn at (length bytes.now) d (c.areas area) }
     ensures others { IsTrue (T.view station.old).is_told → (c : Outcome) → (T.view station.new).left_since (T.view station.new).moment c → (a : Area) → a ≢ area → (T.view station.old).may_leave a (c.areas a) }
     ensures cause { HasCause (T.view station.old).faults (T.view station.new).faults result }
@@ -65,6 +66,8 @@ pub fn write_two<T: Station>(
     requires areas { first ≢ second }
     requires first { at + length bytes.now < 2 ^ 64 }
     requires second { from + length more.now < 2 ^ 64 }
+    ensures first_written { OnOk result (IsTrue (T.view station.old).is_told → (T.view station.new).bytes first ≡ overlaid ((T.view station.old).bytes first) at bytes.now) }
+    ensures second_written { OnOk result (IsTrue (T.view station.old).is_told → (T.view station.new).bytes second ≡ overlaid ((T.view station.old).bytes second) from more.now) }
     ensures confined { IsTrue (T.view station.old).is_told → Confined (TornInTwo first at (length bytes.now) second from (length more.now)) (T.view station.old) (T.view station.new) }
     ensures cause { HasCause (T.view station.old).faults (T.view station.new).faults result }
 {
