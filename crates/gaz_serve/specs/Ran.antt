@@ -5,7 +5,7 @@ use Rattle.gaz_outside.specs.Outside.{SourceView, ShelfView, StationView, SameFi
 use Rattle.gaz_outside.specs.Station.{AreasStay}
 use Rattle.gaz_plain.specs.Load.{Files}
 use Rattle.gaz_serve.specs.Run.{Turn, Verdict, plain, memory, shelf, at_first, IsLegal, replies, shelf_refusals}
-use Rattle.gaz_serve.specs.Serve.{Given}
+use Rattle.gaz_serve.specs.Serve.{Given, Taken}
 
 -- the request was refused for want of memory
 abbrev pub is_memory : Verdict → Bool
@@ -72,6 +72,8 @@ pub record ServeRan {S F T : Type 0} (source : S → SourceView) (shelf : F → 
       status)
   -- With 0 nothing is left.
   pub emptied : status ≡ 0 → IfSome (left_of (source new_source)) (λ bytes. bytes ≡ [])
+  -- At most 2^40 bytes of the source were taken, and then one piece of at most 65,536.
+  pub taken : Taken 65536 (left_of (source old_source)) (left_of (source new_source))
   -- With 5 nothing was called.
   pub untouched : status ≡ 5 → (new_source ≡ old_source) × (new_shelf ≡ old_shelf) × (new_station ≡ old_station)
   pub same : SameFiles (shelf old_shelf) (shelf new_shelf)

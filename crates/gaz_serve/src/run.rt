@@ -7,6 +7,7 @@ ghost use Rattle.gaz_lines.specs.Cutter.{line_limit_of, file_limit_of, IsFresh};
 ghost use Rattle.gaz_reply.specs.Reply.{reply_text, refused};
 ghost use Rattle.gaz_serve.specs.Run.{at_first};
 ghost use Rattle.gaz_serve.specs.Ran.{RunAnswers};
+ghost use Rattle.gaz_serve.specs.Serve.{Taken};
 
 use crate::session::{EndFault, Session, answer};
 use gaz_lines::{LineCutter, LineFault};
@@ -42,6 +43,7 @@ pub(crate) fn run<S: Source, F: Shelf, T: Station>(
     ensures answers { IfSome (files_of (F.view shelf.old)) (λ files.
         RunAnswers files (left_of (S.view source.old)) (F.view shelf.old).faults (F.view shelf.new).faults (printed_of (T.view station.old)) (printed_of (T.view station.new)) result) }
     ensures emptied { result ≡ 0 → IfSome (left_of (S.view source.new)) (λ bytes. bytes ≡ []) }
+    ensures taken { Taken 65536 (left_of (S.view source.old)) (left_of (S.view source.new)) }
     ensures same { SameFiles (F.view shelf.old) (F.view shelf.new) }
     ensures station { result ≡ 3 → RisesOnce (T.view station.old).faults (T.view station.new).faults }
     ensures station_kept { result ≢ 3 → (T.view station.new).faults ≡ (T.view station.old).faults }

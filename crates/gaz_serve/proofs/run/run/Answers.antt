@@ -8,6 +8,7 @@ use Rattle.gaz_serve.specs.declared.session.EndFault.{EndFault}
 use Rattle.gaz_serve.specs.Step.{OneStep}
 use Rattle.gaz_serve.proofs.Changing.{weaker, both_known, told_before, always}
 use Rattle.gaz_serve.proofs.Running.{UnderWay, way_first, run_ends, run_fails, run_cut, next_way, long_step, long_told, line_told}
+use Rattle.gaz_serve.proofs.Taken.{spent_start, spent_line, taken_nothing, taken_next}
 use Rattle.gaz_serve.proofs.run.run.Goals as goal
 
 pub loop-line-init : goal.loop-line-init
@@ -17,6 +18,8 @@ loop-line-init g c = record {
   line_limit = c.requires.line_limit;
   reads = inl c.requires.fresh.reads;
   ended = λ is. absurd (false≢true (sym c.requires.fresh.ended ∙ is));
+  spent = inl (spent_start c.args.cutter.now _ c.requires.fresh c.requires.file_limit);
+  taken = taken_nothing 65536 _;
   same = record { told = refl; files = refl };
   source = refl;
   station = refl;
@@ -48,6 +51,7 @@ returns-in-Err-Station-clause-answers g c =
 pub loop-line-preserved-in_default : goal.loop-line-preserved-in_default
 loop-line-preserved-in_default g c =
     let i = c.loop-line.invariant in
+    let e = c.next_source.ensures in
     let gave = rw (c.in-Ok-Some.is, c.in-Ok-Some.field-0-is) at c.next_source.follows.holds-at-none.gave in
     record {
       way = both_known {B = λ files. OneStep files c.in-Ok-Some.line.now c.loop-line.session c.answer.new.session (g.F.Shelf.view c.loop-line.shelf) (g.F.Shelf.view c.answer.new.shelf) (g.T.Station.view c.loop-line.station) (g.T.Station.view c.answer.new.station) c.answer.result} _ i.way
@@ -56,6 +60,11 @@ loop-line-preserved-in_default g c =
       line_limit = gave.line_limit ∙ i.line_limit;
       reads = inr c.next_source.follows.holds-at-none.reads;
       ended = gave.ended;
+      spent = elim i.spent [
+        | inl s ↦ spent_line _ _ _ c.in-Ok-Some.line.now _ _ _ gave.line.cuts s
+        | inr ended ↦ inr (gave.still_ended ended)
+      ];
+      taken = taken_next (λ s. left_of (g.S.Source.view s)) _ _ _ _ _ _ _ (λ is. (e.rests is).0) i.spent e.waits i.taken;
       same = record { told = c.answer.ensures.same.told ∙ i.same.told; files = c.answer.ensures.same.files ∙ i.same.files };
       source = c.in-Ok-Some.ensures.cause ∙ i.source;
       station = c.in_default.ensures.cause.kept ∙ i.station;
@@ -78,6 +87,7 @@ loop-line-preserved g c =
     let i = c.loop-line.invariant in
     let gave = rw (c.in-Err-TooLong.is, c.in-Err-TooLong.field-0-is) at c.next_source.follows.holds-at-none.gave in
     let long = subst (λ n. n < length gave.refuses.line) i.line_limit gave.refuses.too_long in
+    let e = c.next_source.ensures in
     record {
       way = weaker _ (λ files way.
           let line = long_told _ _ gave.refuses.line _ _ long gave.refuses.cuts.is_line gave.gives way.told in
@@ -86,6 +96,11 @@ loop-line-preserved g c =
       line_limit = gave.line_limit ∙ i.line_limit;
       reads = inr c.next_source.follows.holds-at-none.reads;
       ended = gave.ended;
+      spent = elim i.spent [
+        | inl s ↦ spent_line _ _ _ gave.refuses.line _ _ _ gave.refuses.cuts s
+        | inr ended ↦ inr (gave.still_ended ended)
+      ];
+      taken = taken_next (λ s. left_of (g.S.Source.view s)) _ _ _ _ _ _ _ (λ is. (e.rests is).0) i.spent e.waits i.taken;
       same = i.same;
       source = (rw c.in-Err-TooLong.field-0-is at c.in-Err-TooLong.ensures.cause) ∙ i.source;
       station = c.in_default-refuse_long.ensures.cause.kept ∙ i.station;
@@ -102,3 +117,33 @@ pub returns-in-Err-Station-refuse_long-clause-areas : goal.returns-in-Err-Statio
 returns-in-Err-Station-refuse_long-clause-areas g c =
     let i = c.loop-line.invariant in
     areas_stay_on (g.T.Station.view c.args.station.now) (g.T.Station.view c.loop-line.station) (g.T.Station.view c.refuse_long.new.station) i.told i.areas c.refuse_long.ensures.areas
+
+pub returns-in-Ok-None-clause-taken : goal.returns-in-Ok-None-clause-taken
+returns-in-Ok-None-clause-taken g c =
+    let i = c.loop-line.invariant in
+    let e = c.next_source.ensures in
+    taken_next (λ s. left_of (g.S.Source.view s)) _ _ _ _ _ _ _ (λ is. (e.rests is).0) i.spent e.waits i.taken
+
+pub returns-in-Err-FileTooLong-clause-taken : goal.returns-in-Err-FileTooLong-clause-taken
+returns-in-Err-FileTooLong-clause-taken g c =
+    let i = c.loop-line.invariant in
+    let e = c.next_source.ensures in
+    taken_next (λ s. left_of (g.S.Source.view s)) _ _ _ _ _ _ _ (λ is. (e.rests is).0) i.spent e.waits i.taken
+
+pub returns-in-Err-Failed-clause-taken : goal.returns-in-Err-Failed-clause-taken
+returns-in-Err-Failed-clause-taken g c =
+    let i = c.loop-line.invariant in
+    let e = c.next_source.ensures in
+    taken_next (λ s. left_of (g.S.Source.view s)) _ _ _ _ _ _ _ (λ is. (e.rests is).0) i.spent e.waits i.taken
+
+pub returns-in-Err-Station-clause-taken : goal.returns-in-Err-Station-clause-taken
+returns-in-Err-Station-clause-taken g c =
+    let i = c.loop-line.invariant in
+    let e = c.next_source.ensures in
+    taken_next (λ s. left_of (g.S.Source.view s)) _ _ _ _ _ _ _ (λ is. (e.rests is).0) i.spent e.waits i.taken
+
+pub returns-in-Err-Station-refuse_long-clause-taken : goal.returns-in-Err-Station-refuse_long-clause-taken
+returns-in-Err-Station-refuse_long-clause-taken g c =
+    let i = c.loop-line.invariant in
+    let e = c.next_source.ensures in
+    taken_next (λ s. left_of (g.S.Source.view s)) _ _ _ _ _ _ _ (λ is. (e.rests is).0) i.spent e.waits i.taken

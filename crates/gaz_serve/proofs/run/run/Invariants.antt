@@ -1,9 +1,11 @@
-use Rattle.std.proofs.Common.{◌≡◌}
+use Rattle.std.proofs.Common.{◌≡◌, ◌⊎◌}
 use Rattle.std.specs.Prelude.{IfSome, []}
 use Rattle.gaz_outside.specs.Outside.{SameFiles, left_of, files_of, printed_of}
 use Rattle.gaz_outside.specs.Station.{AreasStay}
-use Rattle.gaz_lines.specs.Cutter.{rest, HasEnded, MayReadSource, line_limit_of, allowed_of}
+use Rattle.gaz_lines.specs.Cutter.{rest, pending, HasEnded, MayReadSource, line_limit_of, allowed_of}
+use Rattle.gaz_serve.specs.Serve.{Taken}
 use Rattle.gaz_serve.proofs.Running.{UnderWay}
+use Rattle.gaz_serve.proofs.Taken.{Spent}
 use Rattle.gaz_serve.proofs.run.run.Given as goal
 
 abbrev pub invariant-loop-line : goal.invariant-loop-line
@@ -13,6 +15,8 @@ invariant-loop-line g l = record {
   line_limit : line_limit_of l.cutter ≡ 4096;
   reads : MayReadSource l.cutter;
   ended : HasEnded l.cutter → IfSome (left_of (g.S.Source.view l.source)) (λ bytes. bytes ≡ []);
+  spent : Spent (allowed_of l.cutter) (pending l.cutter (left_of (g.S.Source.view l.source))) (left_of (g.S.Source.view l.fn.source)) ⊎ HasEnded l.cutter;
+  taken : Taken 65536 (left_of (g.S.Source.view l.fn.source)) (left_of (g.S.Source.view l.source));
   same : SameFiles (g.F.Shelf.view l.fn.shelf) (g.F.Shelf.view l.shelf);
   source : (g.S.Source.view l.source).faults ≡ (g.S.Source.view l.fn.source).faults;
   station : (g.T.Station.view l.station).faults ≡ (g.T.Station.view l.fn.station).faults;

@@ -4,6 +4,7 @@ use Rattle.gaz_outside.proofs.Runs.{areas_stay_same}
 use Rattle.gaz_serve.specs.Ran.{ServeRan, IsAnswered}
 use Rattle.gaz_serve.proofs.Changing.{weaker, always}
 use Rattle.gaz_serve.proofs.Answered.{answered, run_starved, with_starved, not_five}
+use Rattle.gaz_serve.proofs.Taken.{taken_nothing}
 use Rattle.gaz_serve.proofs.top.serve_all.Goals as goal
 
 pub returns-in-Ok : goal.returns-in-Ok
@@ -14,6 +15,7 @@ returns-in-Ok g c =
     (record {
       answers = weaker _ (λ files run. answered files (left_of (g.S.Source.view c.args.requests.now)) (g.S.Source.view c.args.requests.now).faults (g.S.Source.view c.run.new.source).faults (g.F.Shelf.view c.args.shelf.now).faults (g.F.Shelf.view c.run.new.shelf).faults (g.T.Station.view c.reserve_session.new.station).faults (g.T.Station.view c.run.new.station).faults (printed_of (g.T.Station.view c.reserve_session.new.station)) (printed_of (g.T.Station.view c.run.new.station)) c.run.result run e.station e.source others) e.answers;
       emptied = e.emptied;
+      taken = e.taken;
       untouched = λ is. absurd (not_five c.run.result e.others is);
       same = e.same;
       station_failed = e.station;
@@ -33,6 +35,7 @@ returns-in-Err-Memory g c =
           (λ files. answered files (left_of (g.S.Source.view c.args.requests.now)) (g.S.Source.view c.args.requests.now).faults (g.S.Source.view c.args.requests.now).faults (g.F.Shelf.view c.args.shelf.now).faults (g.F.Shelf.view c.args.shelf.now).faults (g.T.Station.view c.reserve_session.new.station).faults (g.T.Station.view c.reserve_session.new.station).faults (printed_of (g.T.Station.view c.reserve_session.new.station)) (printed_of (g.T.Station.view c.reserve_session.new.station)) 5
           (run_starved files _ _ _ 5 (g.met.F.Shelf.faults_fit c.args.shelf.now) refl) (λ is. absurd (omega (arith, is))) (λ is. absurd (omega (arith, is))) (inr (inr (inr (inl refl)))));
       emptied = λ is. absurd (omega (arith, is));
+      taken = taken_nothing 65536 _;
       untouched = λ is. (refl, refl, refl);
       same = record { told = refl; files = refl };
       station_failed = λ is. absurd (omega (arith, is));
