@@ -55,3 +55,21 @@ fn calls_fail_from_the_stop_on(rt: HostRuntime) -> Result<(), Fail> {
     assert_eq!(rt; station.starved(), 0);
     Ok(())
 }
+
+#[test]
+fn reads_are_short_only_at_the_end(rt: HostRuntime) -> Result<(), Fail> {
+    let alloc = rt.alloc();
+    let mut station = MemStation::new(alloc, Vec::new(alloc));
+    assert_eq!(rt; station.write_at(Area::Mark, 2, b"ab"), Ok(()));
+    let cases: [(u64, &[u8]); 4] = [(0, b"\0\0a"), (1, b"\0ab"), (2, b"ab"), (4, b"")];
+    for (at, bytes) in cases {
+        let mut buf = [9; 3];
+        assert_eq!(rt;
+            station.read_at(Area::Mark, at, &mut buf),
+            Ok(bytes.len()),
+            "from {at}"
+        );
+        assert_eq!(rt; &buf[..bytes.len()], bytes, "from {at}");
+    }
+    Ok(())
+}

@@ -311,6 +311,7 @@ impl Station for MemStation {
         ensures uncounted { OnErr result ((⟦<MemStation as Station>⟧.view self.new).writes ≡ (⟦<MemStation as Station>⟧.view self.old).writes) }
         ensures due { IsTrue (is_due (plan_of self.old)) → IsErr result }
         ensures fails { IsErr result → IsTrue (is_due (plan_of self.old)) ⊎ RisesOnce (starved_calls self.old) (starved_calls self.new) }
+        ensures by_number { IsTrue (is_due (plan_of self.old)) → starved_calls self.new ≡ starved_calls self.old }
         ensures fed { OnOk result (starved_calls self.new ≡ starved_calls self.old) }
         ensures plan { plan_of self.new ≡ next_plan (plan_of self.old) }
     {
@@ -344,6 +345,7 @@ impl Station for MemStation {
         ensures keeps { OnErr result (KeepsOutcomes (⟦<MemStation as Station>⟧.view self.old) (⟦<MemStation as Station>⟧.view self.new)) }
         ensures due { IsTrue (is_due (plan_of self.old)) → IsErr result }
         ensures fails { IsErr result → IsTrue (is_due (plan_of self.old)) ⊎ RisesOnce (starved_calls self.old) (starved_calls self.new) }
+        ensures by_number { IsTrue (is_due (plan_of self.old)) → starved_calls self.new ≡ starved_calls self.old }
         ensures fed { OnOk result (starved_calls self.new ≡ starved_calls self.old) }
         ensures plan { plan_of self.new ≡ next_plan (plan_of self.old) }
     {
@@ -370,6 +372,7 @@ impl Station for MemStation {
         ensures nothing { IsErr result → Stays (⟦<MemStation as Station>⟧.view self.old) (⟦<MemStation as Station>⟧.view self.new) }
         ensures due { IsTrue (is_due (plan_of self.old)) → IsErr result }
         ensures fails { IsErr result → IsTrue (is_due (plan_of self.old)) ⊎ RisesOnce (starved_calls self.old) (starved_calls self.new) }
+        ensures by_number { IsTrue (is_due (plan_of self.old)) → starved_calls self.new ≡ starved_calls self.old }
         ensures fed { OnOk result (starved_calls self.new ≡ starved_calls self.old) }
         ensures plan { plan_of self.new ≡ next_plan (plan_of self.old) }
     {
