@@ -4,7 +4,6 @@ use Rattle.std.specs.List.{join_with_byte, starts_with}
 use Rattle.gaz_num.specs.Dates.{date_text, day_in}
 use Rattle.gaz_num.specs.Pieces.{ended_lines}
 use Rattle.gaz_num.specs.Words.{reason_text, table_text, file_text}
-use Rattle.gaz_num.specs.Refusal as refusal
 use Rattle.gaz_num.specs.Refusal.{Refusal, request, not_loaded, sequence, absent, shelf, too_long, malformed, full, memory}
 use Rattle.gaz_reply.specs.declared.reply.Done.{Done}
 use Rattle.gaz_reply.specs.declared.reply.Done.TheVariants.{Load, Day}

@@ -1,15 +1,13 @@
 -- What a run answered, and when all is met as it is defined.
-use Rattle.std.proofs.Common.{◌≡◌, ◌≢◌, ℕ, zero, suc, ◌+◌, ◌^◌, ◌<◌, ◌≤◌, Bool, false, cond, List, [], ◌∷◌, ◌++◌, refl, ap, arith, ◌⊎◌, inl, inr, Option, Some, None, ◌∙◌, sym}
+use Rattle.std.proofs.Common.{◌≡◌, ◌≢◌, ℕ, zero, suc, ◌+◌, ◌^◌, ◌<◌, ◌≤◌, Bool, false, cond, List, [], ◌∷◌, ◌++◌, refl, ap, arith, ◌⊎◌, inl, inr, Option, ◌∙◌, sym}
 use Rattle.std.specs.Prelude.{map, count_by}
 use Rattle.std.proofs.lemmas.List.Sums.{sum_by-cons}
 use Rattle.std.proofs.lemmas.Bool.{false≢true}
 use Rattle.std.proofs.lemmas.List.{append-nil}
 use Rattle.gaz_outside.specs.Outside.{HasRisen, RisesOnce}
-use Rattle.gaz_num.specs.Pieces.{lines_within, is_too_long}
 use Rattle.gaz_plain.specs.Load.{Files}
 use Rattle.gaz_serve.specs.Run.{Turn, Verdict, plain, memory, shelf, is_shelf, shelf_refusals}
 use Rattle.gaz_serve.specs.Ran.{is_memory, memory_refusals, plain_turn, asked, RisesBy, RunAnswers, IsAnswered}
-use Rattle.gaz_serve.specs.Serve.{Given}
 use Rattle.gaz_serve.proofs.Lines.{unread, append_none}
 
 -- one turn more is counted, where its verdict passes

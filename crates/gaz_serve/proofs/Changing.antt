@@ -1,14 +1,14 @@
 -- What a load and a day come to, from what their files come to.
-use Rattle.std.proofs.Common.{◌≡◌, ◌≢◌, ℕ, Bool, true, false, List, [], ◌∷◌, ◌++◌, refl, ap, arith, Option, Some, None, ◌∙◌, sym, subst, ◌⊎◌, inl, inr}
+use Rattle.std.proofs.Common.{◌≡◌, ◌≢◌, ℕ, Bool, true, false, List, [], ◌∷◌, refl, ap, arith, Option, Some, None, ◌∙◌, sym, subst, ◌⊎◌, inl, inr}
 use Rattle.std.specs.Prelude.{IfSome, IsSome, Result, Ok, Err, option_and_then, ok_or, if◌then◌else◌}
-use Rattle.gaz_outside.specs.Outside.{ShelfView, SameFiles, SameNumbers, OpensNumber, files_of, bytes_of}
+use Rattle.gaz_outside.specs.Outside.{ShelfView, OpensNumber, files_of, bytes_of}
 use Rattle.gaz_num.specs.declared.words.FileName.{FileName}
 use Rattle.gaz_num.specs.declared.words.FileName.TheVariants.{Rows, Modifications, Deletes}
 use Rattle.gaz_num.specs.Refusal.{Refusal, absent, ◌>>=◌}
 use Rattle.gaz_num.specs.Words.{file_text}
 use Rattle.gaz_plain.specs.Gazetteer.{Gazetteer, empty, dated}
 use Rattle.gaz_plain.specs.Fold.{File, fold}
-use Rattle.gaz_plain.specs.Load.{Files, load, day, files_of as files_named, load_files, day_files, in_sequence}
+use Rattle.gaz_plain.specs.Load.{Files, load, day, files_of as files_named, day_files, in_sequence}
 use Rattle.gaz_serve.specs.declared.change.ChangeFault.{ChangeFault}
 use Rattle.gaz_serve.specs.declared.change.ChangeFault.TheVariants.{NotLoaded, Sequence, Absent, Shelf, TooLong, Malformed, Full, Memory}
 use Rattle.gaz_serve.specs.Change.{Gives, Opened}

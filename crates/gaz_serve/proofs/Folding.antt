@@ -1,7 +1,6 @@
 -- A file's lines, folded one after another.
-use Rattle.std.proofs.Common.{◌≡◌, ℕ, suc, ◌+◌, ◌^◌, ◌<◌, drop, Bool, true, false, cond, List, [], ◌∷◌, ◌++◌, length, refl, ap, arith, Option, Some, None, append_assoc, length-append, ◌∙◌, sym, subst, IsTrue, not, inl, inr}
+use Rattle.std.proofs.Common.{◌≡◌, ℕ, suc, ◌+◌, ◌^◌, ◌<◌, drop, Bool, true, false, List, [], ◌∷◌, ◌++◌, length, refl, ap, arith, Option, Some, None, append_assoc, length-append, ◌∙◌, sym, subst, IsTrue}
 use Rattle.std.specs.Prelude.{IfSome, option_map, Result, Ok, Err, nat_le, if◌then◌else◌}
-use Rattle.std.specs.List.{AllByRecursion, list_any}
 use Rattle.std.proofs.lemmas.Grind.{common_steps}
 use Rattle.std.proofs.lemmas.List.{append-nil}
 use Rattle.gaz_num.specs.declared.words.Kind.{Kind}
@@ -23,7 +22,7 @@ use Rattle.gaz_lines.specs.Cutter.{rest, line_limit_of, file_limit_of, line_of, 
 use Rattle.gaz_lines.specs.Files.{left_at, place_in}
 use Rattle.gaz_lines.specs.declared.cutter.LineCutter.{LineCutter}
 use Rattle.gaz_serve.specs.Change.{Gives, fault_at}
-use Rattle.gaz_plain.specs.Fold.{File, Item, line as line_item, overrun, lines_from, items_of, in_place, refusal_at, after_item, after_items, fold}
+use Rattle.gaz_plain.specs.Fold.{File, Item, line as line_item, overrun, lines_from, items_of, in_place, refusal_at, after_items, fold}
 use Rattle.gaz_plain.proofs.Folds.{after_items-append}
 
 -- a line without LF, as a test

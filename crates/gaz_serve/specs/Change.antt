@@ -1,5 +1,5 @@
 -- What a load or a day comes to, in the program.
-use Rattle.std.specs.Prelude.{◌≡◌, ℕ, ⊤, List, [], ◌∷◌, Option, Some, None, IfSome, Result, Ok, Err, IsSome}
+use Rattle.std.specs.Prelude.{◌≡◌, ℕ, ⊤, List, [], ◌∷◌, Some, None, IfSome, Result, Ok, Err, IsSome}
 use Rattle.gaz_outside.specs.Outside.{ShelfView, RisesOnce, SameNumbers, OpensNumber, files_of}
 use Rattle.gaz_num.specs.declared.words.FileName.{FileName}
 use Rattle.gaz_num.specs.Words.{file_text}

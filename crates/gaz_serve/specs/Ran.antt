@@ -83,6 +83,6 @@ pub record ServeRan {S F T : Type 0} (source : S → SourceView) (shelf : F → 
   pub source_failed : status ≡ 4 → RisesOnce (source old_source).faults (source new_source).faults
   pub source_kept : status ≢ 4 → (source new_source).faults ≡ (source old_source).faults
   pub told : (station new_station).is_told ≡ (station old_station).is_told
-  -- No area is called.
+  -- Each area stays as it was, with what a stop may leave of it.
   pub areas : AreasStay (station old_station) (station new_station)
   pub others : (status ≡ 0) ⊎ (status ≡ 3) ⊎ (status ≡ 4) ⊎ (status ≡ 5) ⊎ (status ≡ 7)

@@ -1,7 +1,6 @@
 -- What one request does, in the program.
 use Rattle.std.specs.Prelude.{◌≡◌, ⊤, ℕ, List, Result, Ok, Err}
 use Rattle.gaz_outside.specs.Outside.{ShelfView, StationView, Prints}
-use Rattle.gaz_num.specs.declared.words.FileName.{FileName}
 use Rattle.gaz_num.specs.Refusal as refusal
 use Rattle.gaz_num.specs.Refusal.{Refusal}
 use Rattle.gaz_plain.specs.Gazetteer.{Gazetteer}

@@ -1,5 +1,4 @@
-use Rattle.std.proofs.Common.{ap, refl, sym, subst, ◌++◌}
-use Rattle.std.specs.Prelude.{codes, decimal}
+use Rattle.std.proofs.Common.{ap, refl, sym}
 use Rattle.gaz_outside.proofs.Runs.{areas_stay_print}
 use Rattle.gaz_num.specs.Refusal.{not_loaded, sequence, absent, shelf, too_long, malformed, full, memory}
 use Rattle.gaz_reply.specs.Reply.{refusal_of}

@@ -1,5 +1,5 @@
 use Rattle.std.proofs.Common.{◌≡◌, ◌^◌}
-use Rattle.std.specs.Prelude.{IfSome, IsSome, []}
+use Rattle.std.specs.Prelude.{IfSome, []}
 use Rattle.gaz_outside.specs.Outside.{SameFiles, SameNumbers, bytes_of}
 use Rattle.gaz_lines.specs.Cutter.{rest, HasEnded, MayReadFile, place_of, line_limit_of, file_limit_of, allowed_of, line_of}
 use Rattle.gaz_lines.specs.Files.{left_at}

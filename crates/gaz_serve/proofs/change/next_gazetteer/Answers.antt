@@ -1,7 +1,7 @@
-use Rattle.std.proofs.Common.{◌≡◌, Some, ◌∙◌, ap}
+use Rattle.std.proofs.Common.{◌∙◌, ap}
 use Rattle.std.specs.Prelude.{IsSome}
 use Rattle.std.proofs.lemmas.Bool.{cases_eq}
-use Rattle.gaz_outside.specs.Outside.{ShelfView, files_of}
+use Rattle.gaz_outside.specs.Outside.{files_of}
 use Rattle.gaz_num.specs.declared.words.FileName.TheVariants.{Modifications, Deletes}
 use Rattle.gaz_num.specs.Words.{file_text}
 use Rattle.gaz_plain.specs.Gazetteer.{dated}

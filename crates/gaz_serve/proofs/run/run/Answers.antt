@@ -1,4 +1,4 @@
-use Rattle.std.proofs.Common.{◌<◌, length, ◌∙◌, refl, sym, ap, subst, inl, inr, arith, true, false}
+use Rattle.std.proofs.Common.{◌<◌, length, ◌∙◌, refl, sym, subst, inl, inr, arith, true, false}
 use Rattle.std.proofs.lemmas.Bool.{false≢true}
 use Rattle.gaz_outside.specs.Outside.{left_of, printed_of}
 use Rattle.gaz_outside.proofs.Runs.{areas_stay_same, areas_stay_on}

@@ -1,7 +1,7 @@
 use Rattle.std.proofs.Common.{refl, subst, arith, inl, inr}
-use Rattle.gaz_outside.specs.Outside.{left_of, printed_of, files_of}
+use Rattle.gaz_outside.specs.Outside.{left_of, printed_of}
 use Rattle.gaz_outside.proofs.Runs.{areas_stay_same}
-use Rattle.gaz_serve.specs.Ran.{ServeRan, IsAnswered}
+use Rattle.gaz_serve.specs.Ran.{ServeRan}
 use Rattle.gaz_serve.proofs.Changing.{weaker, always}
 use Rattle.gaz_serve.proofs.Answered.{answered, run_starved, with_starved, not_five}
 use Rattle.gaz_serve.proofs.Taken.{taken_nothing}

@@ -1,4 +1,4 @@
-use Rattle.std.proofs.Common.{◌≡◌, refl, subst, sym}
+use Rattle.std.proofs.Common.{◌≡◌, refl, subst}
 use Rattle.std.specs.Prelude.{Err}
 use Rattle.gaz_plain.specs.Load.{day, in_sequence}
 use Rattle.gaz_serve.specs.Change.{Gives, refusal_by}
