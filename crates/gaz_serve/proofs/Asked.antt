@@ -1,6 +1,6 @@
 -- A request line as one step.
 use Rattle.std.proofs.Common.{◌≡◌, ℕ, List, refl, ap, sym, subst, ◌∙◌}
-use Rattle.std.specs.Prelude.{Result, Ok, Err, IsOk}
+use Rattle.std.specs.Prelude.{Result, Ok, Err}
 use Rattle.gaz_outside.specs.Outside.{ShelfView, StationView, Prints}
 use Rattle.gaz_num.specs.Refusal.{request}
 use Rattle.gaz_plain.specs.Load.{Files}
@@ -8,14 +8,14 @@ use Rattle.gaz_words.specs.declared.request.Request.{Request}
 use Rattle.gaz_words.specs.declared.request.BadRequest.{BadRequest}
 use Rattle.gaz_words.specs.Grammar.{request_in, bad_word}
 use Rattle.gaz_reply.specs.Reply.{reply_text, refused}
-use Rattle.gaz_serve.specs.Run.{State, Verdict, plain, memory, shelf, answer_to_read, answer_by, opens, IsReached, MayBe}
+use Rattle.gaz_serve.specs.Run.{State, Verdict, plain, memory, shelf, answer_to_read, answer_by, opens, IsReached, MayBe, MayStarve}
 use Rattle.gaz_serve.specs.Step.{Meets, MayMeet, OneStep, answer_of}
 
 -- a line that was read as the request
 module _ (state : State) (files : Files) (line : List ℕ) (asked : Request) (read : request_in line ≡ Ok asked) where
   may_be : (verdict : Verdict) → MayMeet verdict state files asked → MayBe verdict state files line
   may_be plain may = tt
-  may_be memory may = subst (λ r. IsOk r) (sym read) refl
+  may_be memory may = subst MayStarve (sym read) may
   may_be (shelf file) may = subst (λ r. IsReached files file (opens state r)) (sym read) may
 
   same_answer : (verdict : Verdict) → answer_of verdict state files asked ≡ answer_by verdict state files line

@@ -12,7 +12,7 @@ use Rattle.gaz_reply.specs.Reply.{reply_text}
 use Rattle.gaz_serve.specs.declared.change.ChangeFault.{ChangeFault}
 use Rattle.gaz_serve.specs.declared.change.ChangeFault.TheVariants.{NotLoaded, Sequence, Absent, Shelf, TooLong, Malformed, Full, Memory}
 use Rattle.gaz_serve.specs.Change.{Gives, Blamed, BlamesReached, IsOfDate, IsUnblamed, refusal_by}
-use Rattle.gaz_serve.specs.Run.{State, changed, plain, memory, shelf, answer_to, opens}
+use Rattle.gaz_serve.specs.Run.{State, changed, plain, memory, shelf, answer_to, opens, MayStarve}
 use Rattle.gaz_serve.specs.Step.{Changes, change_reply, Meets}
 
 -- a day whose date is refused
@@ -30,7 +30,7 @@ date_fault gaz files date (Malformed file line reason) refused is = absurd is
 date_fault gaz files date (Full file line table) refused is = absurd is
 date_fault gaz files date Memory refused is = absurd is
 
-module _ {E : Type 0} (files : Files) (request : Request) (change : Done) (defined : Result Gazetteer Refusal) (old new : State) (before now : ShelfView) (station station_now : StationView) (result : Result (Unit {0}) E) (answer : answer_to old files request ≡ changed old change defined) where
+module _ {E : Type 0} (files : Files) (request : Request) (change : Done) (defined : Result Gazetteer Refusal) (old new : State) (before now : ShelfView) (station station_now : StationView) (result : Result (Unit {0}) E) (answer : answer_to old files request ≡ changed old change defined) (starves : MayStarve (Ok request)) where
   -- the change was refused as it is defined
   refused_meets : (fault : ChangeFault) → (new ≡ old) × (defined ≡ Err (refusal_by fault)) → IsUnblamed before now → Prints (reply_text (change_reply {A = Unit {0}} change (Err fault))) station station_now result → Meets files request old new before now station station_now result
   refused_meets fault is blamed printed =
@@ -60,4 +60,4 @@ module _ {E : Type 0} (files : Files) (request : Request) (change : Done) (defin
   change_meets (Err (TooLong file)) is reached blamed printed = refused_meets (TooLong file) is blamed printed
   change_meets (Err (Malformed file line reason)) is reached blamed printed = refused_meets (Malformed file line reason) is blamed printed
   change_meets (Err (Full file line table)) is reached blamed printed = refused_meets (Full file line table) is blamed printed
-  change_meets (Err Memory) is reached blamed printed = record { verdict = memory; may = tt; blamed = blamed; printed = printed; state_is = is.0 }
+  change_meets (Err Memory) is reached blamed printed = record { verdict = memory; may = starves; blamed = blamed; printed = printed; state_is = is.0 }

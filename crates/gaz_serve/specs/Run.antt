@@ -1,5 +1,5 @@
 -- The replies to request lines, one after another, and the gazetteers between them.
-use Rattle.std.specs.Prelude.{◌≡◌, ℕ, ◌⊎◌, ⊤, ◌++◌, List, [], ◌∷◌, count_by, Bool, true, false, Option, option_to_list, is_none, IsSome, IsOk, Result, Ok, Err, if◌then◌else◌, slice_get}
+use Rattle.std.specs.Prelude.{◌≡◌, ℕ, ◌⊎◌, ⊤, ◌++◌, List, [], ◌∷◌, count_by, Bool, true, false, Option, option_to_list, is_none, IsSome, Result, Ok, Err, if◌then◌else◌, slice_get}
 use Rattle.gaz_num.specs.declared.words.FileName.{FileName}
 use Rattle.gaz_num.specs.declared.words.Table.TheVariants.{Rows}
 use Rattle.gaz_num.specs.Words.{file_text}
@@ -86,10 +86,17 @@ abbrev pub IsReached : Files → FileName → List FileName → Type 0
 IsReached files file [] = ⊥
 IsReached files file (name ∷ names) = (name ≡ file) ⊎ (IsSome (files (file_text name)) × IsReached files file names)
 
+-- a request that may be refused for want of memory: one that reads files
+abbrev pub MayStarve : Result Request BadRequest → Type 0
+MayStarve (Ok (Load date)) = ⊤
+MayStarve (Ok (Day date)) = ⊤
+MayStarve (Ok (Get id)) = ⊥
+MayStarve (Err bad) = ⊥
+
 -- a request may be met by the verdict
 abbrev pub MayBe : Verdict → State → Files → List ℕ → Type 0
 MayBe plain state files line = ⊤
-MayBe memory state files line = IsOk (request_in line)
+MayBe memory state files line = MayStarve (request_in line)
 MayBe (shelf file) state files line = IsReached files file (opens state (request_in line))
 
 -- a request line and how it is met

@@ -9,7 +9,7 @@ use Rattle.gaz_reply.specs.declared.reply.Done.{Done}
 use Rattle.gaz_reply.specs.Reply.{Reply, done, refused, reply_text}
 use Rattle.gaz_serve.specs.declared.change.ChangeFault.{ChangeFault}
 use Rattle.gaz_serve.specs.Change.{Gives, IsUnblamed, FailedAt, refusal_by}
-use Rattle.gaz_serve.specs.Run.{State, Answer, same_state, Verdict, plain, memory, shelf, MayBe, IsReached, opens, answer_to, answer_by}
+use Rattle.gaz_serve.specs.Run.{State, Answer, same_state, Verdict, plain, memory, shelf, MayBe, MayStarve, IsReached, opens, answer_to, answer_by}
 use Rattle.gaz_words.specs.declared.request.Request.{Request}
 
 -- The state has the defined gazetteer, or the change was refused and left the state.
@@ -37,7 +37,7 @@ answer_of (shelf file) state files request = same_state state (refused (refusal.
 -- a request that was read may be met by the verdict
 abbrev pub MayMeet : Verdict → State → Files → Request → Type 0
 MayMeet plain state files request = ⊤
-MayMeet memory state files request = ⊤
+MayMeet memory state files request = MayStarve (Ok request)
 MayMeet (shelf file) state files request = IsReached files file (opens state (Ok request))
 
 -- A request that was read is met by a verdict that it may have.
