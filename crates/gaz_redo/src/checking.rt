@@ -10,12 +10,13 @@ ghost use Rattle.gaz_redo.specs.Content.{is_plain, area_of};
 ghost use Rattle.gaz_redo.specs.Passes.{end_at, end_with, lies_before, slots_pass, count_in_header};
 ghost use Rattle.gaz_redo.specs.Recovered.{Finds, CountsToCheck};
 
-use crate::{Home, area_code};
+use crate::Home;
+use crate::place::area_code;
 use gaz_outside::{Area, Failed, Station};
 
 /// Where the areas of images end.
 #[derive(Clone, Copy)]
-pub struct Ends {
+pub(crate) struct Ends {
     pub root: u64,
     pub left: u64,
     pub right: u64,
@@ -72,7 +73,7 @@ fn read_head<T: Station>(station: &mut T, at: u64) -> Result<[u8; 16], Failed>
 }
 
 /// The home that a slot's head names.
-pub fn home_in(head: &[u8; 16]) -> Home
+pub(crate) fn home_in(head: &[u8; 16]) -> Home
     ensures area { result.area ≡ area_of (slice_index head.now 0) }
     ensures page { result.page ≡ from_be_bytes w32 (take 4 (drop 4 head.now)) }
 {
@@ -180,7 +181,7 @@ fn read_ends<T: Station>(station: &mut T) -> Result<Ends, Failed>
 }
 
 /// Whether the log is in form, and how many slots it has.
-pub fn check_log<T: Station>(station: &mut T) -> Result<Option<u64>, Failed>
+pub(crate) fn check_log<T: Station>(station: &mut T) -> Result<Option<u64>, Failed>
     ensures few { IfOk result (λ o. IfSome o (λ n. n < 2 ^ 50)) }
     ensures found { IfOk result (λ o. IsTrue (T.view station.old).is_told → Finds (T.view station.old) o) }
     ensures stays { IsTrue (T.view station.old).is_told → Confined SameBytes (T.view station.old) (T.view station.new) }

@@ -8,11 +8,12 @@ ghost use Rattle.gaz_redo.specs.Slots.{slots_in, slot_of, laid_in, Scattered, To
 ghost use Rattle.gaz_redo.specs.Content.{spelled, spelled_slot, head_of};
 ghost use Rattle.std.specs.Int.{w64, to_be_bytes};
 
-use crate::{Home, Image};
+use crate::Home;
+use crate::image::Image;
 use gaz_outside::{Area, Failed, Station};
 
 /// Writes each image to its home.
-pub fn write_images<T: Station>(station: &mut T, images: &[Image]) -> Result<(), Failed>
+pub(crate) fn write_images<T: Station>(station: &mut T, images: &[Image]) -> Result<(), Failed>
     ensures placed { OnOk result (IsTrue (T.view station.old).is_told → (a : Area) → (T.view station.new).bytes a ≡ laid_in a (slots_in images.now) ((T.view station.old).bytes a)) }
     ensures confined { IsTrue (T.view station.old).is_told → Confined (λ a. Scattered a (slots_in images.now)) (T.view station.old) (T.view station.new) }
     ensures counts { Counts 0 (length images.now) (T.view station.old) (T.view station.new) }
@@ -25,7 +26,7 @@ pub fn write_images<T: Station>(station: &mut T, images: &[Image]) -> Result<(),
 }
 
 /// Writes the gate's byte, and syncs it.
-pub fn set_gate<T: Station>(station: &mut T, byte: u8) -> Result<(), Failed>
+pub(crate) fn set_gate<T: Station>(station: &mut T, byte: u8) -> Result<(), Failed>
     ensures set { OnOk result (IsTrue (T.view station.old).is_told → (T.view station.new).bytes Mark ≡ overlaid ((T.view station.old).bytes Mark) 0 (byte ∷ [])) }
     ensures stable { OnOk result (IsTrue (T.view station.old).is_told → IsStable (T.view station.new) Mark) }
     ensures confined { IsTrue (T.view station.old).is_told → Confined (AnyIn Mark) (T.view station.old) (T.view station.new) }
@@ -37,7 +38,7 @@ pub fn set_gate<T: Station>(station: &mut T, byte: u8) -> Result<(), Failed>
 }
 
 /// Writes the log's header and its slots.
-pub fn write_log<T: Station>(station: &mut T, images: &[Image]) -> Result<(), Failed>
+pub(crate) fn write_log<T: Station>(station: &mut T, images: &[Image]) -> Result<(), Failed>
     requires { length images.now < 2 ^ 40 }
     ensures logged { OnOk result (IsTrue (T.view station.old).is_told → StartsWith (spelled (slots_in images.now)) ((T.view station.new).bytes Log)) }
     ensures confined { IsTrue (T.view station.old).is_told → Confined (AnyIn Log) (T.view station.old) (T.view station.new) }
@@ -103,7 +104,7 @@ fn write_slot<T: Station>(station: &mut T, at: u64, image: &Image) -> Result<(),
 }
 
 /// The byte that names an area in a slot.
-pub fn area_code(area: Area) -> u8
+pub(crate) fn area_code(area: Area) -> u8
     ensures { result ≡ area_place area }
 {
     match area {
@@ -140,7 +141,7 @@ fn has_image(images: &[Image], area: Area) -> bool
 }
 
 /// Writes each image to its home, and syncs the homes.
-pub fn place_images<T: Station>(station: &mut T, images: &[Image]) -> Result<(), Failed>
+pub(crate) fn place_images<T: Station>(station: &mut T, images: &[Image]) -> Result<(), Failed>
     ensures placed { OnOk result (IsTrue (T.view station.old).is_told → (a : Area) → (T.view station.new).bytes a ≡ laid_in a (slots_in images.now) ((T.view station.old).bytes a)) }
     ensures stable { OnOk result (IsTrue (T.view station.old).is_told → (a : Area) → IsHome a → Touches a (slots_in images.now) → IsStable (T.view station.new) a) }
     ensures confined { IsTrue (T.view station.old).is_told → Confined (λ a. Scattered a (slots_in images.now)) (T.view station.old) (T.view station.new) }
@@ -154,7 +155,7 @@ pub fn place_images<T: Station>(station: &mut T, images: &[Image]) -> Result<(),
 }
 
 /// Writes the log and syncs it.
-pub fn log_images<T: Station>(station: &mut T, images: &[Image]) -> Result<(), Failed>
+pub(crate) fn log_images<T: Station>(station: &mut T, images: &[Image]) -> Result<(), Failed>
     requires { length images.now < 2 ^ 40 }
     ensures logged { OnOk result (IsTrue (T.view station.old).is_told → StartsWith (spelled (slots_in images.now)) ((T.view station.new).bytes Log)) }
     ensures stable { OnOk result (IsTrue (T.view station.old).is_told → IsStable (T.view station.new) Log) }

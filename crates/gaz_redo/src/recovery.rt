@@ -9,7 +9,9 @@ ghost use Rattle.gaz_redo.specs.Slots.{laid_in, Scattered, IsHome, SameBytes, To
 ghost use Rattle.gaz_redo.specs.Content.{is_open, is_log, slots_of, slot_count, slot_at, area_of};
 ghost use Rattle.gaz_redo.specs.Recovered.{AllStable, StandsFor, Tells, Means, OnlyRise, SlotsToRedo, answer_of};
 
-use crate::{Home, check_log, home_in, set_gate};
+use crate::checking::{check_log, home_in};
+use crate::place::set_gate;
+use crate::{Home, RedoFault};
 use gaz_outside::{Area, Failed, Station};
 
 #[derive(Clone, Copy, Debug, PartialEq, Eq)]
@@ -95,7 +97,7 @@ fn sync_homes<T: Station>(station: &mut T) -> Result<(), Failed>
 }
 
 /// Brings the areas to what they stand for, after a stop. It may be stopped too.
-pub fn recover<T: Station>(station: &mut T) -> Result<Recovered, Failed>
+pub fn recover<T: Station>(station: &mut T) -> Result<Recovered, RedoFault>
     requires { IsTrue (T.view station.old).is_told → AllStable (T.view station.old) }
     ensures means { IfOk result (λ r. IsTrue (T.view station.old).is_told → Means (T.view station.old) r) }
     ensures answer { IfOk result (λ r. IsTrue (T.view station.old).is_told → r ≡ answer_of (T.view station.old).bytes) }

@@ -5,11 +5,13 @@ ghost use Rattle.gaz_outside.specs.Station.{Counts, LeavesOnly};
 ghost use Rattle.gaz_redo.specs.Slots.{slots_in, LeaveNoGap};
 ghost use Rattle.gaz_redo.specs.Content.{IsReady, IsCommitted, IsOldOrNew, are_images, are_tight};
 
-use crate::{Image, Images, log_images, place_images, set_gate};
-use gaz_outside::{Failed, Station};
+use crate::image::Image;
+use crate::place::{log_images, place_images, set_gate};
+use crate::{Images, RedoFault};
+use gaz_outside::Station;
 
 /// Lays the images over their areas, all of them or none, whenever it is stopped.
-pub fn commit<T: Station>(station: &mut T, images: &Images) -> Result<(), Failed>
+pub fn commit<T: Station>(station: &mut T, images: &Images) -> Result<(), RedoFault>
     requires { IsTrue (T.view station.old).is_told → IsReady (slots_in images.now.list.items) (T.view station.old) }
     ensures committed { OnOk result (IsTrue (T.view station.old).is_told → IsCommitted (slots_in images.now.list.items) (T.view station.old) (T.view station.new)) }
 
@@ -23,7 +25,7 @@ pub fn commit<T: Station>(station: &mut T, images: &Images) -> Result<(), Failed
     commit_list(station, &images.list)
 }
 
-fn commit_list<T: Station>(station: &mut T, images: &[Image]) -> Result<(), Failed>
+fn commit_list<T: Station>(station: &mut T, images: &[Image]) -> Result<(), RedoFault>
     requires valid { IsTrue (are_images (slots_in images.now)) }
     requires few { length images.now < 2 ^ 40 }
     requires ready { IsTrue (T.view station.old).is_told → IsReady (slots_in images.now) (T.view station.old) }
