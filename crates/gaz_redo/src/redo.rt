@@ -12,17 +12,17 @@ use gaz_outside::Station;
 
 /// Lays the images over their areas, all of them or none, whenever it is stopped.
 pub fn commit<T: Station>(station: &mut T, images: &Images) -> Result<(), RedoFault>
-    requires { IsTrue (T.view station.old).is_told → IsReady (slots_in images.now.list.items) (T.view station.old) }
-    ensures committed { OnOk result (IsTrue (T.view station.old).is_told → IsCommitted (slots_in images.now.list.items) (T.view station.old) (T.view station.new)) }
+    requires { IsTrue (T.view station.old).is_told → IsReady images.now (T.view station.old) }
+    ensures committed { OnOk result (IsTrue (T.view station.old).is_told → IsCommitted images.now (T.view station.old) (T.view station.new)) }
 
     // Where the images leave no gap, a stop at any moment leaves the old content, or the old one with the images laid over.
-    ensures any_moment { IsTrue (T.view station.old).is_told → LeaveNoGap (slots_in images.now.list.items) (T.view station.old).bytes
-        → LeavesOnly (T.view station.old) (T.view station.new) (IsOldOrNew (slots_in images.now.list.items) (T.view station.old)) }
+    ensures any_moment { IsTrue (T.view station.old).is_told → LeaveNoGap images.now (T.view station.old).bytes
+        → LeavesOnly (T.view station.old) (T.view station.new) (IsOldOrNew images.now (T.view station.old)) }
     ensures printed { IsTrue (T.view station.old).is_told → (T.view station.new).printed ≡ (T.view station.old).printed }
-    ensures counts { Counts 0 (3 * length images.now.list.items + 3) (T.view station.old) (T.view station.new) }
+    ensures counts { Counts 0 (3 * length images.now + 3) (T.view station.old) (T.view station.new) }
     ensures cause { HasCause (T.view station.old).faults (T.view station.new).faults result }
 {
-    commit_list(station, &images.list)
+    commit_list(station, images.as_slice())
 }
 
 fn commit_list<T: Station>(station: &mut T, images: &[Image]) -> Result<(), RedoFault>
