@@ -1,11 +1,11 @@
 -- Turns, one behind the other, and the run that they make.
-use Rattle.std.proofs.Common.{◌≡◌, ◌≢◌, ℕ, zero, suc, ◌+◌, ◌-◌, ◌^◌, ◌<◌, ◌≤◌, Bool, true, false, cond, List, [], ◌∷◌, ◌++◌, length, refl, ap, arith, ◌⊎◌, inl, inr, Option, Some, None, append_assoc, ◌∙◌, sym, subst}
-use Rattle.std.specs.Prelude.{map, count_by, min, option_map, codes, nat_lt, IfSome, Result, Ok, Err}
+use Rattle.std.proofs.Common.{◌≡◌, ◌≢◌, ℕ, ◌+◌, ◌^◌, ◌<◌, Bool, true, false, cond, List, [], ◌∷◌, ◌++◌, length, refl, ap, arith, Option, Some, None, append_assoc, ◌∙◌, sym, subst}
+use Rattle.std.specs.Prelude.{option_map, codes, nat_lt, IfSome, Result, Ok, Err}
 use Rattle.std.specs.List.{AllByRecursion}
 use Rattle.std.specs.Io.KnownBytes.{append_known}
 use Rattle.std.proofs.lemmas.Grind.{common_steps}
-use Rattle.std.proofs.lemmas.List.{append-nil, map-append}
-use Rattle.gaz_outside.specs.Outside.{ShelfView, StationView, RisesOnce, IsPrefix, Prints, PrintsFront, printed_of}
+use Rattle.std.proofs.lemmas.List.{append-nil}
+use Rattle.gaz_outside.specs.Outside.{ShelfView, StationView, Prints, printed_of}
 use Rattle.gaz_num.specs.Pieces.{lines_within, is_too_long}
 use Rattle.gaz_lines.specs.Lines.{IsLine, Rest, onto}
 use Rattle.gaz_lines.proofs.Pieces.{are_more, lines_are_lines}
@@ -17,11 +17,10 @@ use Rattle.gaz_num.specs.Refusal.{request}
 use Rattle.gaz_words.specs.Grammar.{request_in}
 use Rattle.gaz_words.specs.declared.request.BadRequest.TheVariants.{Length}
 use Rattle.gaz_serve.proofs.Lines.{append_none}
-use Rattle.gaz_serve.specs.Run.{answer_to_read, State, Turn, Verdict, plain, memory, shelf, at_first, answer_at, answer_by, MayBe, IsLegal, state_after, replies, is_shelf, shelf_refusals}
-use Rattle.gaz_serve.specs.Change.{IsUnblamed, FailedAt}
+use Rattle.gaz_serve.specs.Run.{answer_to_read, State, Turn, Verdict, plain, memory, shelf, at_first, answer_at, IsLegal, state_after, replies, is_shelf, shelf_refusals}
 use Rattle.gaz_serve.specs.Step.{IsBlamed, OneStep}
 use Rattle.gaz_serve.specs.Serve.{Given}
-use Rattle.gaz_serve.specs.Ran.{asked, plain_turn, RisesBy, IsCut, RunAnswers}
+use Rattle.gaz_serve.specs.Ran.{asked, RisesBy, RunAnswers}
 
 state_after-append : (state : State) (files : Files) (turns more : List Turn) → state_after state files (turns ++ more) ≡ state_after (state_after state files turns) files more
 state_after-append state files [] more = refl
