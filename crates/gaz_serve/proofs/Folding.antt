@@ -1,12 +1,11 @@
 -- A file's lines, folded one after another.
 use Rattle.std.proofs.Common.{◌≡◌, ℕ, suc, ◌+◌, ◌^◌, ◌<◌, drop, Bool, true, false, List, [], ◌∷◌, ◌++◌, length, refl, ap, arith, Option, Some, None, append_assoc, length-append, ◌∙◌, sym, subst, IsTrue}
-use Rattle.std.specs.Prelude.{IfSome, option_map, Result, Ok, Err, nat_le, if◌then◌else◌}
+use Rattle.std.specs.Prelude.{IfSome, option_map, Result, Ok, Err, if◌then◌else◌}
 use Rattle.std.proofs.lemmas.Grind.{common_steps}
 use Rattle.std.proofs.lemmas.List.{append-nil}
 use Rattle.gaz_num.specs.declared.words.Kind.{Kind}
 use Rattle.gaz_num.specs.declared.words.FileName.{FileName}
 use Rattle.gaz_num.specs.declared.words.Reason.TheVariants.{Length}
-use Rattle.gaz_num.specs.Check.{reason_against}
 use Rattle.gaz_num.specs.Pieces.{lines_within, is_too_long}
 use Rattle.gaz_num.specs.Refusal.{Refusal, malformed, too_long, ◌>>=◌}
 use Rattle.gaz_num.specs.Words.{kind_of_file}
@@ -22,6 +21,7 @@ use Rattle.gaz_lines.specs.Cutter.{rest, line_limit_of, file_limit_of, line_of, 
 use Rattle.gaz_lines.specs.Files.{left_at, place_in}
 use Rattle.gaz_lines.specs.declared.cutter.LineCutter.{LineCutter}
 use Rattle.gaz_serve.specs.Change.{Gives, fault_at}
+use Rattle.gaz_serve.proofs.Lines.{long_is_refused}
 use Rattle.gaz_plain.specs.Fold.{File, Item, line as line_item, overrun, lines_from, items_of, in_place, refusal_at, after_items, fold}
 use Rattle.gaz_plain.proofs.Folds.{after_items-append}
 
@@ -32,14 +32,6 @@ one_line_from (b ∷ text) is =
     let other = is.0 in
     let later = one_line_from text is.1 in
     grind (arith, common_steps)
-
-le_false : (n most : ℕ) → most < n → nat_le n most ≡ false
-le_false n most h = grind (arith, common_steps)
-
--- a line that is too long is refused for its length
-pub long_is_refused : (kind : Kind) (text : List ℕ) → 65535 < length text → reason_against kind text ≡ Some Length
-unfolding reason_against
-long_is_refused kind text long = rw (le_false (length text) 65535 long) refl
 
 lines_from-append : (name : FileName) (n : ℕ) (xs ys : List (List ℕ)) → lines_from name n (xs ++ ys) ≡ lines_from name n xs ++ lines_from name (n + length xs) ys
 lines_from-append name n [] ys = ap (λ k. lines_from name k ys) (omega arith)

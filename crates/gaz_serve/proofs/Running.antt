@@ -13,6 +13,7 @@ use Rattle.gaz_lines.proofs.Rests.{rest_with}
 use Rattle.gaz_lines.proofs.Told.{Told, told_line, told_too_long, told_end}
 use Rattle.gaz_plain.specs.Load.{Files}
 use Rattle.gaz_reply.specs.Reply.{reply_text, refused}
+use Rattle.gaz_reply.proofs.Pieces.{append_two}
 use Rattle.gaz_num.specs.Refusal.{request}
 use Rattle.gaz_words.specs.Grammar.{request_in}
 use Rattle.gaz_words.specs.declared.request.BadRequest.TheVariants.{Length}
@@ -49,10 +50,6 @@ pub record UnderWay (files : Files) (bytes : Option (List ℕ)) (now : Option Re
   pub state_is : state ≡ state_after at_first files turns
   pub causes : RisesBy (shelf_refusals turns) shelf_faults shelf_faults_now
   pub text_is : printed_now ≡ append_known printed (replies at_first files turns)
-
-append_two : (known : Option (List ℕ)) (xs ys : List ℕ) → append_known (append_known known xs) ys ≡ append_known known (xs ++ ys)
-append_two None xs ys = refl
-append_two (Some zs) xs ys = ap Some (append_assoc zs xs ys)
 
 -- the replies with that of one more turn
 replies_more : (files : Files) (turns : List Turn) (turn : Turn) → replies at_first files (turns ++ turn ∷ []) ≡ replies at_first files turns ++ reply_text (answer_at (state_after at_first files turns) files turn).reply
