@@ -37,6 +37,7 @@ with_image s (t ∷ ss) = if comes_before t s then t ∷ with_image s ss else (i
 abbrev pub home_number : Area → ℕ → ℕ
 home_number area page = 2 ^ 32 * area_place area + page
 
+-- the number of the home of a slot
 abbrev pub number_of : Slot → ℕ
 number_of s = home_number s.area s.page
 

@@ -4,15 +4,18 @@ ghost use Rattle.gaz_outside.specs.Outside.{HasCause};
 ghost use Rattle.gaz_outside.specs.Station.{Counts, LeavesOnly};
 ghost use Rattle.gaz_redo.specs.Slots.{slots_in, LeaveNoGap};
 ghost use Rattle.gaz_redo.specs.Content.{IsReady, IsCommitted, IsOldOrNew, are_images, are_tight};
+ghost use Rattle.gaz_redo.specs.Recovered.{AllStable};
 
 use crate::image::Image;
 use crate::place::{log_images, place_images, set_gate};
 use crate::{Images, RedoFault};
 use gaz_outside::Station;
 
-/// Lays the images over their areas, all of them or none, whenever it is stopped.
+/// Lays the images over their areas, all of them or none, whenever it is stopped: writes and syncs the log, opens the
+/// gate, writes and syncs the pages, closes the gate. `Failed` is that of the first call that failed, and the last made.
 pub fn commit<T: Station>(station: &mut T, images: &Images) -> Result<(), RedoFault>
     requires { IsTrue (T.view station.old).is_told → IsReady images.now (T.view station.old) }
+    ensures stable { OnOk result (IsTrue (T.view station.old).is_told → AllStable (T.view station.old) → AllStable (T.view station.new)) }
     ensures committed { OnOk result (IsTrue (T.view station.old).is_told → IsCommitted images.now (T.view station.old) (T.view station.new)) }
 
     // Where the images leave no gap, a stop at any moment leaves the old content, or the old one with the images laid over.
@@ -29,6 +32,7 @@ fn commit_list<T: Station>(station: &mut T, images: &[Image]) -> Result<(), Redo
     requires valid { IsTrue (are_images (slots_in images.now)) }
     requires few { length images.now < 2 ^ 40 }
     requires ready { IsTrue (T.view station.old).is_told → IsReady (slots_in images.now) (T.view station.old) }
+    ensures stable { OnOk result (IsTrue (T.view station.old).is_told → AllStable (T.view station.old) → AllStable (T.view station.new)) }
     ensures committed { OnOk result (IsTrue (T.view station.old).is_told → IsCommitted (slots_in images.now) (T.view station.old) (T.view station.new)) }
     ensures any_moment { IsTrue (T.view station.old).is_told → IsTrue (are_tight (slots_in images.now) (T.view station.old).bytes)
         → LeavesOnly (T.view station.old) (T.view station.new) (IsOldOrNew (slots_in images.now) (T.view station.old)) }
