@@ -27,6 +27,9 @@ pub fn write_and_sync<T: Station>(
     ensures written { OnOk result (IsTrue (T.view station.old).is_told → (T.view station.new).bytes area ≡ overlaid ((T.view station.old).bytes area) at bytes.now) }
     ensures stable { OnOk result (IsTrue (T.view station.old).is_told → IsStable (T.view station.new) area) }
     ensures later { OnOk result (IsTrue (T.view station.old).is_told → (c : Outcome) → (T.view station.new).left_since (T.view station.new).moment c → c.areas area ≡ overlaid ((T.view station.old).bytes area) at bytes.now) }
+    // So it is after later calls too, as long as they leave the area.
+    ensures outlives { OnOk result (IsTrue (T.view station.old).is_told → (later : T) → AreaStays (T.view station.new) (T.view later) area
+        → IsStable (T.view later) area × ((T.view later).bytes area ≡ overlaid ((T.view station.old).bytes area) at bytes.now)) }
     ensures others { IsTrue (T.view station.old).is_told → (a : Area) → a ≢ area → AreaStays (T.view station.old) (T.view station.new) a }
     ensures cause { HasCause (T.view station.old).faults (T.view station.new).faults result }
 {
