@@ -30,6 +30,12 @@ check locked_by_another "$(flock mirror.mark "$areas" late < /dev/null; echo " $
 check closed_output "$? $(cat mirror.mark)" '3 shut'
 "$areas" bare <&- >&- 2>&-
 check all_closed "$? $(cat mirror.mark)" '4 bare'
+# The first sync of an area syncs the folder behind it, so that the file's name outlives a power cut.
+if strace -o trace true 2> /dev/null; then
+    strace -o trace -e trace=openat,fdatasync,fsync "$areas" synced < /dev/null > /dev/null
+    check folder_is_synced "$(sed -n '/mirror.mark/,$p' trace | sed -n 's/^\(fdatasync\|fsync\)(.*= 0$/\1/p; s/^openat(.*"\.".*/folder/p' | tr '\n' ' ')" 'fdatasync folder fsync '
+fi
+
 rm mirror.mark
 mkdir mirror.mark
 check a_folder_as_area "$("$areas" none < /dev/null; echo " $?")" ' 3'
