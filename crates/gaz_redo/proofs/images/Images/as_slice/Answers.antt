@@ -1,4 +1,4 @@
-use Rattle.std.proofs.Common.{◌<◌, ◌^◌, length, arith, sym, ap}
+use Rattle.std.proofs.Common.{◌<◌, ◌^◌, length, arith}
 use Rattle.std.proofs.lemmas.List.{length-map}
 use Rattle.gaz_redo.specs.Slots.{slot_of, slots_in}
 use Rattle.gaz_redo.proofs.ImageEdits.{few_images}

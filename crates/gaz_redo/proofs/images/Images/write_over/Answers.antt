@@ -1,7 +1,7 @@
 use Rattle.std.proofs.Common.{◌<◌, ◌^◌, ◌≡◌, true, arith}
 use Rattle.gaz_redo.specs.Slots.{slots_in}
-use Rattle.gaz_redo.specs.Content.{is_slot, are_images}
-use Rattle.gaz_redo.specs.Images.{slot_for, with_image, home_number, IsPlaceOf}
+use Rattle.gaz_redo.specs.Content.{is_slot}
+use Rattle.gaz_redo.specs.Images.{slot_for, home_number, IsPlaceOf}
 use Rattle.gaz_redo.proofs.ImageEdits.{is_image, put_over, images_with}
 use Rattle.gaz_redo.proofs.images.Images.write_over.Goals as goal
 
