@@ -11,8 +11,9 @@ ghost use Rattle.gaz_redo.specs.Passes.{end_at, end_with, lies_before, slots_pas
 ghost use Rattle.gaz_redo.specs.Recovered.{Finds, CountsToCheck};
 
 use crate::Home;
-use crate::place::area_code;
+use crate::place::{HEAD, SLOT, area_code};
 use gaz_outside::{Area, Failed, Station};
+use gaz_page::PAGE;
 
 /// Where the areas of images end.
 #[derive(Clone, Copy)]
@@ -38,7 +39,7 @@ impl Ends {
     fn with(self, home: Home) -> Ends
         ensures { (a : Area) → IsHome a → end_at result a ≡ end_with home (end_at self a) a }
     {
-        let end = 4096 * home.page as u64 + 4096;
+        let end = PAGE as u64 * home.page as u64 + PAGE as u64;
         match home.area {
             Area::Mark | Area::Log => self,
             Area::Root => Ends {
@@ -111,7 +112,9 @@ fn rises_to(last: Home, home: Home) -> bool
 fn is_next(head: &[u8; 16], home: Home, last: Home, ends: Ends) -> bool
     ensures { result ≡ (is_plain head.now && lies_before last home && nat_le (4096 * home.page) (end_at ends home.area)) }
 {
-    is_plain_head(head) && rises_to(last, home) && 4096 * home.page as u64 <= ends.at(home.area)
+    is_plain_head(head)
+        && rises_to(last, home)
+        && PAGE as u64 * home.page as u64 <= ends.at(home.area)
 }
 
 /// The slots have their fixed bytes, rise, and leave no gap behind these ends.
@@ -129,7 +132,7 @@ fn are_in_form<T: Station>(station: &mut T, count: u64, from: Ends) -> Result<bo
     };
     let mut ends = from;
     for k in 0..count {
-        let head = read_head(station, 16 + 4112 * k)?;
+        let head = read_head(station, HEAD + SLOT * k)?;
         let home = home_in(&head);
         if !is_next(&head, home, last, ends) {
             return Ok(false);
@@ -148,7 +151,7 @@ fn count_in(head: &[u8; 16], size: u64) -> Option<u64>
     let count = u64::from_be_bytes([
         head[0], head[1], head[2], head[3], head[4], head[5], head[6], head[7],
     ]);
-    if size < 16 || (size - 16) / 4112 < count || head[8..16] != [0; 8] {
+    if size < HEAD || (size - HEAD) / SLOT < count || head[8..16] != [0; 8] {
         return None;
     }
     Some(count)

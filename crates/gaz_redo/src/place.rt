@@ -11,6 +11,13 @@ ghost use Rattle.std.specs.Int.{w64, to_be_bytes};
 use crate::Home;
 use crate::image::Image;
 use gaz_outside::{Area, Failed, Station};
+use gaz_page::PAGE;
+
+/// How many bytes stand before the slots of the log, and in a slot before the image.
+pub(crate) const HEAD: u64 = 16;
+
+/// How many bytes a slot has.
+pub(crate) const SLOT: u64 = 4112;
 
 /// Writes each image to its home.
 pub(crate) fn write_images<T: Station>(station: &mut T, images: &[Image]) -> Result<(), Failed>
@@ -20,7 +27,11 @@ pub(crate) fn write_images<T: Station>(station: &mut T, images: &[Image]) -> Res
     ensures cause { HasCause (T.view station.old).faults (T.view station.new).faults result }
 {
     for image in images {
-        station.write_at(image.home.area, 4096 * image.home.page as u64, &image.bytes)?;
+        station.write_at(
+            image.home.area,
+            PAGE as u64 * image.home.page as u64,
+            &image.bytes,
+        )?;
     }
     Ok(())
 }
@@ -46,10 +57,10 @@ pub(crate) fn write_log<T: Station>(station: &mut T, images: &[Image]) -> Result
     ensures cause { HasCause (T.view station.old).faults (T.view station.new).faults result }
 {
     station.write_at(Area::Log, 0, &log_head(images.len() as u64))?;
-    let mut at = 16;
+    let mut at = HEAD;
     for image in images {
         write_slot(station, at, image)?;
-        at += 4112;
+        at += SLOT;
     }
     Ok(())
 }
@@ -99,7 +110,7 @@ fn write_slot<T: Station>(station: &mut T, at: u64, image: &Image) -> Result<(),
     ensures cause { HasCause (T.view station.old).faults (T.view station.new).faults result }
 {
     station.write_at(Area::Log, at, &slot_head(image.home))?;
-    station.write_at(Area::Log, at + 16, &image.bytes)?;
+    station.write_at(Area::Log, at + HEAD, &image.bytes)?;
     Ok(())
 }
 

@@ -10,9 +10,10 @@ ghost use Rattle.gaz_redo.specs.Content.{is_open, is_log, slots_of, slot_count, 
 ghost use Rattle.gaz_redo.specs.Recovered.{AllStable, StandsFor, Tells, Means, OnlyRise, SlotsToRedo, answer_of};
 
 use crate::checking::{check_log, home_in};
-use crate::place::set_gate;
+use crate::place::{HEAD, SLOT, set_gate};
 use crate::{Home, RedoFault};
 use gaz_outside::{Area, Failed, Station};
+use gaz_page::PAGE;
 
 #[derive(Clone, Copy, Debug, PartialEq, Eq)]
 pub enum Recovered {
@@ -59,10 +60,10 @@ fn write_slots<T: Station>(station: &mut T, count: u64) -> Result<(), Failed>
     ensures counts { Counts (2 * count) count (T.view station.old) (T.view station.new) }
     ensures cause { HasCause (T.view station.old).faults (T.view station.new).faults result }
 {
-    let mut image = [0; 4096];
+    let mut image = [0; PAGE];
     for k in 0..count {
         let home = read_slot(station, k, &mut image)?;
-        station.write_at(home.area, 4096 * home.page as u64, &image)?;
+        station.write_at(home.area, PAGE as u64 * home.page as u64, &image)?;
     }
     Ok(())
 }
@@ -78,8 +79,8 @@ fn read_slot<T: Station>(station: &mut T, k: u64, image: &mut [u8]) -> Result<Ho
     ensures cause { HasCause (T.view station.old).faults (T.view station.new).faults result }
 {
     let mut head = [0; 16];
-    station.read_at(Area::Log, 16 + 4112 * k, &mut head)?;
-    station.read_at(Area::Log, 16 + 4112 * k + 16, image)?;
+    station.read_at(Area::Log, HEAD + SLOT * k, &mut head)?;
+    station.read_at(Area::Log, HEAD + SLOT * k + HEAD, image)?;
     Ok(home_in(&head))
 }
 
