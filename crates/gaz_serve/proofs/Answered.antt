@@ -33,12 +33,12 @@ by_size (suc n) = inr (omega arith)
 no_refusals : (n before now : ℕ) → RisesBy n before now → (HasRisen before now → ⊥) → n ≡ 0
 no_refusals n before now rises still = elim (by_size n) [ inl none ↦ none | inr more ↦ absurd (still (omega (arith, rises, more))) ]
 
-module _ (files : Files) (bytes : Option (List ℕ)) (source source_now shelf_faults shelf_now station station_now : ℕ) (printed printed_now : Option (List ℕ)) (status : ℕ) where
+module _ (files : Files) (bytes bytes_now : Option (List ℕ)) (source source_now shelf_faults shelf_now station station_now : ℕ) (printed printed_now : Option (List ℕ)) (status : ℕ) where
   -- whether something failed
   abbrev Failed : Type 0
   Failed = HasRisen source source_now ⊎ HasRisen shelf_faults shelf_now ⊎ HasRisen station station_now
 
-  pub answered : RunAnswers files bytes shelf_faults shelf_now printed printed_now status → (status ≡ 3 → RisesOnce station station_now) → (status ≡ 4 → RisesOnce source source_now) → (status ≡ 0) ⊎ (status ≡ 3) ⊎ (status ≡ 4) ⊎ (status ≡ 5) ⊎ (status ≡ 7) → IsAnswered files bytes shelf_faults shelf_now printed printed_now Failed status
+  pub answered : RunAnswers files bytes bytes_now shelf_faults shelf_now printed printed_now status → (status ≡ 3 → RisesOnce station station_now) → (status ≡ 4 → RisesOnce source source_now) → (status ≡ 0) ⊎ (status ≡ 3) ⊎ (status ≡ 4) ⊎ (status ≡ 5) ⊎ (status ≡ 7) → IsAnswered files bytes bytes_now shelf_faults shelf_now printed printed_now Failed status
   answered run three four others = record {
     run = run;
     complete = λ quiet not_starved no_memory within. by_status quiet not_starved no_memory within others;
@@ -56,8 +56,8 @@ module _ (files : Files) (bytes : Option (List ℕ)) (source source_now shelf_fa
       by_status quiet not_starved no_memory within (inr (inr (inr (inr is)))) = absurd (false≢true (sym within ∙ (run.past is).1))
 
 -- memory was wanting before the first line
-pub run_starved : (files : Files) (bytes : Option (List ℕ)) (faults : ℕ) (printed : Option (List ℕ)) (status : ℕ) → faults < 2 ^ 64 → status ≡ 5 → RunAnswers files bytes faults faults printed printed status
-run_starved files bytes faults printed status fits five = record {
+pub run_starved : (files : Files) (bytes bytes_now : Option (List ℕ)) (faults : ℕ) (printed : Option (List ℕ)) (status : ℕ) → faults < 2 ^ 64 → status ≡ 5 → RunAnswers files bytes bytes_now faults faults printed printed status
+run_starved files bytes bytes_now faults printed status fits five = record {
   given = unread bytes;
   turns = [];
   unanswered = (unread bytes).lines;
@@ -70,6 +70,7 @@ run_starved files bytes faults printed status fits five = record {
   cut = λ is. absurd (omega (arith, five, is));
   ended = λ is. absurd (omega (arith, five, is));
   past = λ is. absurd (omega (arith, five, is));
+  heard = λ is. absurd (omega (arith, five, is));
   starved = λ is. refl;
 }
 

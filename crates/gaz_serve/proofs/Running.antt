@@ -1,5 +1,5 @@
 -- Turns, one behind the other, and the run that they make.
-use Rattle.std.proofs.Common.{◌≡◌, ◌≢◌, ℕ, ◌+◌, ◌^◌, ◌<◌, Bool, true, false, cond, List, [], ◌∷◌, ◌++◌, length, refl, ap, arith, Option, Some, None, append_assoc, ◌∙◌, sym, subst}
+use Rattle.std.proofs.Common.{◌≡◌, ◌≢◌, ℕ, ◌+◌, ◌^◌, ◌<◌, Bool, true, false, cond, List, [], ◌∷◌, ◌++◌, length, refl, ap, arith, Option, Some, None, append_assoc, length-append, ◌∙◌, sym, subst}
 use Rattle.std.specs.Prelude.{option_map, codes, nat_lt, IfSome, Result, Ok, Err}
 use Rattle.std.specs.List.{AllByRecursion}
 use Rattle.std.specs.Io.KnownBytes.{append_known}
@@ -21,7 +21,7 @@ use Rattle.gaz_serve.proofs.Lines.{append_none}
 use Rattle.gaz_serve.specs.Run.{answer_to_read, State, Turn, Verdict, plain, memory, shelf, at_first, answer_at, IsLegal, state_after, replies, is_shelf, shelf_refusals}
 use Rattle.gaz_serve.specs.Step.{IsBlamed, OneStep}
 use Rattle.gaz_serve.specs.Serve.{Given}
-use Rattle.gaz_serve.specs.Ran.{asked, RisesBy, RunAnswers}
+use Rattle.gaz_serve.specs.Ran.{asked, RisesBy, IsHeard, RunAnswers}
 
 state_after-append : (state : State) (files : Files) (turns more : List Turn) → state_after state files (turns ++ more) ≡ state_after (state_after state files turns) files more
 state_after-append state files [] more = refl
@@ -42,8 +42,9 @@ shelf-append : (turns more : List Turn) → shelf_refusals (turns ++ more) ≡ s
 shelf-append turns more = grind (arith, common_steps)
 
 -- Turns answered the lines that were given, and their replies were printed.
-pub record UnderWay (files : Files) (bytes : Option (List ℕ)) (now : Option Rest) (state : State) (shelf_faults shelf_faults_now : ℕ) (printed printed_now : Option (List ℕ)) : Type 0 where
+pub record UnderWay (files : Files) (bytes : Option (List ℕ)) (now : Option Rest) (answered : ℕ) (state : State) (shelf_faults shelf_faults_now : ℕ) (printed printed_now : Option (List ℕ)) : Type 0 where
   pub turns : List Turn
+  pub count : length turns ≡ answered
   pub are_lines : AllByRecursion IsLine (asked turns)
   pub told : IfSome bytes (λ text. Told 4096 (asked turns) now text)
   pub legal : IsLegal at_first files turns
@@ -93,10 +94,10 @@ all_given (Some text) lines now past are told none =
       e.1,
     )
 
-module _ (files : Files) (bytes : Option (List ℕ)) (faults faults_now : ℕ) (printed printed_now : Option (List ℕ)) (now : Option Rest) (state : State) (way : UnderWay files bytes now state faults faults_now printed printed_now) where
+module _ (files : Files) (bytes : Option (List ℕ)) (faults faults_now : ℕ) (printed printed_now : Option (List ℕ)) (now : Option Rest) (answered : ℕ) (state : State) (way : UnderWay files bytes now answered state faults faults_now printed printed_now) where
   -- the source ended, or goes on past the limit
-  pub run_ends : (status : ℕ) (past : Bool) → IfSome now (λ rest. rest ≡ rest_with [] past) → status ≢ 3 → status ≢ 5 → (status ≡ 0 → past ≡ false) → (status ≡ 7 → past ≡ true) → RunAnswers files bytes faults faults_now printed printed_now status
-  run_ends status past none not_cut not_starved ends passes =
+  pub run_ends : (status : ℕ) (past : Bool) (bytes_now : Option (List ℕ)) → IfSome now (λ rest. rest ≡ rest_with [] past) → status ≢ 3 → status ≢ 4 → status ≢ 5 → (status ≡ 0 → past ≡ false) → (status ≡ 7 → past ≡ true) → RunAnswers files bytes bytes_now faults faults_now printed printed_now status
+  run_ends status past bytes_now none not_cut not_failed not_starved ends passes =
       let all = all_given bytes (asked way.turns) now past way.are_lines way.told none in
       record {
         given = all.0;
@@ -111,12 +112,13 @@ module _ (files : Files) (bytes : Option (List ℕ)) (faults faults_now : ℕ) (
         cut = λ is. absurd (not_cut is);
         ended = λ is. (refl, all.2 ∙ ends is);
         past = λ is. (refl, all.2 ∙ passes is);
+        heard = λ is. absurd (not_failed is);
         starved = λ is. absurd (not_starved is);
       }
 
   -- the source failed
-  pub run_fails : (status : ℕ) → status ≡ 4 → RunAnswers files bytes faults faults_now printed printed_now status
-  run_fails status four =
+  pub run_fails : (status : ℕ) (bytes_now : Option (List ℕ)) → status ≡ 4 → IsHeard bytes bytes_now answered → RunAnswers files bytes bytes_now faults faults_now printed printed_now status
+  run_fails status bytes_now four heard =
       let some = lines_given bytes (asked way.turns) now false way.are_lines way.told in
       record {
         given = some.0;
@@ -131,18 +133,20 @@ module _ (files : Files) (bytes : Option (List ℕ)) (faults faults_now : ℕ) (
         cut = λ is. absurd (omega (arith, four, is));
         ended = λ is. absurd (omega (arith, four, is));
         past = λ is. absurd (omega (arith, four, is));
+        heard = λ is. (heard.0, heard.1, (let all = heard.2 in let count = way.count in omega (arith, all, count)));
         starved = λ is. absurd (omega (arith, four, is));
       }
 
   module _ {E : Type 0} (line : List ℕ) (is_line : IsLine line) (later : Option Rest) (told : IfSome bytes (λ text. Told 4096 (asked way.turns ++ line ∷ []) later text)) (state_now : State) (before after : ShelfView) (station station_now : StationView) (is_old : before.faults ≡ faults_now) (is_printed : printed_of station ≡ printed_now) where
     -- one more line is answered
-    pub next_way : OneStep {A = Unit {0}} {E = E} files line state state_now before after station station_now (Ok tt) → UnderWay files bytes later state_now faults after.faults printed (printed_of station_now)
-    next_way first_step =
+    pub next_way : (m : ℕ) → m ≡ answered + 1 → OneStep {A = Unit {0}} {E = E} files line state state_now before after station station_now (Ok tt) → UnderWay files bytes later m state_now faults after.faults printed (printed_of station_now)
+    next_way m one_more first_step =
         let step = subst (λ s. OneStep {A = Unit {0}} {E = E} files line s state_now before after station station_now (Ok tt)) way.state_is first_step in
         let turn : Turn = record { line = line; verdict = step.verdict } in
         let next = state_after at_first files way.turns in
         record {
           turns = way.turns ++ turn ∷ [];
+          count = (let more = length-append way.turns (turn ∷ []) in let count = way.count in omega (arith, more, count, one_more));
           are_lines = subst (λ lines. AllByRecursion IsLine lines) (sym (asked_more way.turns turn)) (are_more (asked way.turns) (line ∷ []) way.are_lines (is_line, tt));
           told = subst (λ lines. IfSome bytes (λ text. Told 4096 lines later text)) (sym (asked_more way.turns turn)) told;
           legal = legal-append at_first files way.turns (turn ∷ []) way.legal (step.may, tt);
@@ -156,8 +160,8 @@ module _ (files : Files) (bytes : Option (List ℕ)) (faults faults_now : ℕ) (
         }
 
     -- the reply of one more line is cut
-    pub run_cut : (status : ℕ) → status ≡ 3 → (failed : E) → OneStep {A = Unit {0}} {E = E} files line state state_now before after station station_now (Err failed) → RunAnswers files bytes faults after.faults printed (printed_of station_now) status
-    run_cut status three failed first_step =
+    pub run_cut : (status : ℕ) (bytes_now : Option (List ℕ)) → status ≡ 3 → (failed : E) → OneStep {A = Unit {0}} {E = E} files line state state_now before after station station_now (Err failed) → RunAnswers files bytes bytes_now faults after.faults printed (printed_of station_now) status
+    run_cut status bytes_now three failed first_step =
         let step = subst (λ s. OneStep {A = Unit {0}} {E = E} files line s state_now before after station station_now (Err failed)) way.state_is first_step in
         let turn : Turn = record { line = line; verdict = step.verdict } in
         let next = state_after at_first files way.turns in
@@ -185,13 +189,15 @@ module _ (files : Files) (bytes : Option (List ℕ)) (faults faults_now : ℕ) (
           };
           ended = λ is. absurd (omega (arith, three, is));
           past = λ is. absurd (omega (arith, three, is));
+          heard = λ is. absurd (omega (arith, three, is));
           starved = λ is. absurd (omega (arith, three, is));
         }
 
 -- before the first line
-pub way_first : (files : Files) (bytes : Option (List ℕ)) (now : Option Rest) (state : State) (faults : ℕ) (printed : Option (List ℕ)) → faults < 2 ^ 64 → state ≡ at_first → IfSome bytes (λ text. Told 4096 [] now text) → UnderWay files bytes now state faults faults printed printed
-way_first files bytes now state faults printed fits first told = record {
+pub way_first : (files : Files) (bytes : Option (List ℕ)) (now : Option Rest) (answered : ℕ) (state : State) (faults : ℕ) (printed : Option (List ℕ)) → faults < 2 ^ 64 → answered ≡ 0 → state ≡ at_first → IfSome bytes (λ text. Told 4096 [] now text) → UnderWay files bytes now answered state faults faults printed printed
+way_first files bytes now answered state faults printed fits none first told = record {
   turns = [];
+  count = sym none;
   are_lines = tt;
   told = told;
   legal = tt;

@@ -1,10 +1,14 @@
 -- What was taken of a source, line by line.
-use Rattle.std.proofs.Common.{◌≡◌, ℕ, ◌+◌, ◌^◌, List, [], ◌∷◌, ◌++◌, length, ap, arith, Option, append_assoc, ◌∙◌, sym, subst, length-append, ◌⊎◌, inl, inr}
+use Rattle.std.proofs.Common.{◌≡◌, ℕ, ◌+◌, ◌≤◌, ◌^◌, List, [], ◌∷◌, ◌++◌, length, refl, ap, arith, Option, append_assoc, ◌∙◌, sym, subst, length-append, ◌⊎◌, inl, inr}
 use Rattle.std.specs.Io.KnownBytes.{prepend_known}
-use Rattle.gaz_lines.specs.Cutter.{Cuts, Waited, IsFresh, pending, allowed_of, file_limit_of}
+use Rattle.std.proofs.lemmas.List.{append-nil}
+use Rattle.gaz_lines.specs.Cutter.{Cuts, Waited, IsFresh, pending, line_of, allowed_of, file_limit_of}
 use Rattle.gaz_lines.specs.declared.cutter.LineCutter.{LineCutter}
 use Rattle.gaz_lines.proofs.Rests.{prepend_none, prepend_two}
+use Rattle.gaz_num.specs.Pieces.{ended_lines, all_but_last}
+use Rattle.gaz_lines.proofs.Pieces.{pieces_last, ended_line}
 use Rattle.gaz_serve.specs.Serve.{Taken}
+use Rattle.gaz_serve.specs.Ran.{IsHeard}
 
 -- The bytes of the lines before are what the limit has lost.
 pub record Spent (limit : ℕ) (pending left : Option (List ℕ)) : Type 0 where
@@ -27,13 +31,6 @@ spent_with_lf limit now text pending new left gives less s = record {
   before = s.before ∙ ap (prepend_known s.given) gives ∙ sym (prepend_two s.given (text ++ 10 ∷ []) new);
 }
 
--- a line with its LF is given, or the last one, and then the end was seen
-pub spent_line : (at_end : Type 0) (limit now : ℕ) (text : List ℕ) (pending new left : Option (List ℕ)) → Cuts at_end text limit now pending new → Spent limit pending left → Spent now new left ⊎ at_end
-spent_line at_end limit now text pending new left cuts s = elim cuts.ends [
-  | inl with_lf ↦ inl (spent_with_lf limit now text pending new left with_lf.0 with_lf.1 s)
-  | inr last ↦ inr last.4
-]
-
 abbrev pub taken_nothing : (room : ℕ) (left : Option (List ℕ)) → Taken room left left
 taken_nothing room left = record { front = []; within = omega arith; chunk = []; fits = omega arith; given = sym (prepend_none left) }
 
@@ -54,3 +51,42 @@ module _ {S : Type 0} (left : S → Option (List ℕ)) (first now next : S) (lim
     | inl s ↦ taken_waited limit 65536 start pending (left first) (left next) s w
     | inr ended ↦ subst (λ s. Taken 65536 (left first) (left s)) (sym (rests ended)) t
   ]
+
+-- So many lines were given, and what they spent of the source.
+pub record Counted (n limit : ℕ) (pending left : Option (List ℕ)) : Type 0 where
+  pub spent : Spent limit pending left
+  pub goes_on : (rest : List ℕ) → length (ended_lines (spent.given ++ rest)) ≡ n + length (ended_lines rest)
+
+pub counted_start : (cutter : LineCutter) (left : Option (List ℕ)) → IsFresh cutter → file_limit_of cutter ≡ 2 ^ 40 → Counted (line_of cutter) (allowed_of cutter) (pending cutter left) left
+counted_start cutter left fresh limit = record { spent = spent_start cutter left fresh limit; goes_on = λ rest. omega (arith, fresh.number) }
+
+pub counted_line : (at_end : Type 0) (n m limit now : ℕ) (text : List ℕ) (pending new left : Option (List ℕ)) → m ≡ n + 1 → Cuts at_end text limit now pending new → Counted n limit pending left → Counted m now new left ⊎ at_end
+counted_line at_end n m limit now text pending new left next cuts k = elim cuts.ends [
+  | inl with_lf ↦ inl record {
+    spent = spent_with_lf limit now text pending new left with_lf.0 with_lf.1 k.spent;
+    goes_on = λ rest.
+        let joined = ap (λ xs. length (ended_lines xs)) (append_assoc k.spent.given (text ++ 10 ∷ []) rest ∙ ap (λ xs. k.spent.given ++ xs) (append_assoc text (10 ∷ []) rest)) in
+        let before = k.goes_on (text ++ 10 ∷ rest) in
+        let one = ap length (ended_line text rest cuts.is_line) in
+        omega (arith, joined, before, one, next);
+  }
+  | inr last ↦ inr last.4
+]
+
+-- what is spent, or the end was seen
+pub spent_of : (n limit : ℕ) (pending left : Option (List ℕ)) (at_end : Type 0) → Counted n limit pending left ⊎ at_end → Spent limit pending left ⊎ at_end
+spent_of n limit pending left at_end (inl k) = inl k.spent
+spent_of n limit pending left at_end (inr ended) = inr ended
+
+no_chunk : (chunk : List ℕ) → length chunk ≤ 0 → chunk ≡ []
+no_chunk [] none = refl
+no_chunk (b ∷ chunk) none = absurd (omega (arith, none))
+
+-- The source failed where it was asked, so no line that was taken is left.
+pub heard_all : (n limit : ℕ) (start : List ℕ) (pending left new : Option (List ℕ)) (at_end : Type 0) → (at_end → ⊥) → Counted n limit pending left ⊎ at_end → Waited limit 0 start pending new → IsHeard left new n
+heard_all n limit start pending left new at_end goes_on (inr ended) w = absurd (goes_on ended)
+heard_all n limit start pending left new at_end goes_on (inl k) w = (
+  k.spent.given ++ w.part,
+  k.spent.before ∙ ap (prepend_known k.spent.given) (w.given ∙ ap (λ chunk. prepend_known (w.part ++ chunk) new) (no_chunk w.chunk w.fits) ∙ ap (λ xs. prepend_known xs new) (append-nil w.part)) ∙ sym (prepend_two k.spent.given w.part new),
+  (let before = k.goes_on w.part in let none = ap (λ ps. length (all_but_last ps)) (pieces_last w.part w.is_line) in omega (arith, before, none)),
+)

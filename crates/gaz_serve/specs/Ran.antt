@@ -1,10 +1,11 @@
 -- How a run of requests may end.
-use Rattle.std.specs.Prelude.{◌≡◌, ◌≢◌, ℕ, ◌+◌, ◌-◌, ◌^◌, ◌⊎◌, min, Bool, true, false, List, [], ◌∷◌, ◌++◌, map, count_by, Option, IfSome}
-use Rattle.std.specs.Io.KnownBytes.{append_known}
+use Rattle.std.specs.Prelude.{◌≡◌, ◌≢◌, ◌≤◌, ℕ, length, ◌+◌, ◌-◌, ◌^◌, ◌⊎◌, min, Bool, true, false, List, [], ◌∷◌, ◌++◌, map, count_by, Option, IfSome}
+use Rattle.std.specs.Io.KnownBytes.{append_known, prepend_known}
 use Rattle.gaz_outside.specs.Outside.{SourceView, ShelfView, StationView, SameFiles, HasRisen, RisesOnce, IsPrefix, left_of, files_of, printed_of}
 use Rattle.gaz_outside.specs.Station.{AreasStay}
 use Rattle.gaz_plain.specs.Load.{Files}
 use Rattle.gaz_serve.specs.Run.{Turn, Verdict, plain, memory, shelf, at_first, IsLegal, replies, shelf_refusals}
+use Rattle.gaz_num.specs.Pieces.{ended_lines}
 use Rattle.gaz_serve.specs.Serve.{Given, Taken}
 
 -- the request was refused for want of memory
@@ -37,9 +38,13 @@ pub record IsCut (files : Files) (turns : List Turn) (text : List ℕ) : Type 0 
   pub begun : IsPrefix (replies at_first files earlier) text
   pub front : IsPrefix text (replies at_first files turns)
 
+-- So many lines were answered, and no more lines that an LF ends were taken.
+abbrev pub IsHeard : Option (List ℕ) → Option (List ℕ) → ℕ → Type 0
+IsHeard old new answered = (taken : List ℕ) × (old ≡ prepend_known taken new) × (length (ended_lines taken) ≤ answered)
+
 -- Turns from the empty gazetteer on, each met as it may be, answer the first of the lines that the source gives,
 -- and their replies were printed.
-pub record RunAnswers (files : Files) (bytes : Option (List ℕ)) (shelf_faults shelf_faults_now : ℕ) (printed printed_now : Option (List ℕ)) (status : ℕ) : Type 0 where
+pub record RunAnswers (files : Files) (bytes bytes_now : Option (List ℕ)) (shelf_faults shelf_faults_now : ℕ) (printed printed_now : Option (List ℕ)) (status : ℕ) : Type 0 where
   pub given : Given bytes
   pub turns : List Turn
   pub unanswered : List (List ℕ)
@@ -55,19 +60,21 @@ pub record RunAnswers (files : Files) (bytes : Option (List ℕ)) (shelf_faults 
   -- With 0 and 7 all lines were answered, with 7 where the source goes on past the limit.
   pub ended : status ≡ 0 → (unanswered ≡ []) × (given.is_past ≡ false)
   pub past : status ≡ 7 → (unanswered ≡ []) × (given.is_past ≡ true)
+  -- With 4 each whole line that was taken was answered before the source was asked for more.
+  pub heard : status ≡ 4 → IsHeard bytes bytes_now (length turns)
   pub starved : status ≡ 5 → turns ≡ []
 
 -- So the run answered, and where nothing failed, no memory was wanting and the source is within the limit, each of its lines
 -- was met as it is defined.
-pub record IsAnswered (files : Files) (bytes : Option (List ℕ)) (shelf_faults shelf_faults_now : ℕ) (printed printed_now : Option (List ℕ)) (failed : Type 0) (status : ℕ) : Type 0 where
-  pub run : RunAnswers files bytes shelf_faults shelf_faults_now printed printed_now status
+pub record IsAnswered (files : Files) (bytes bytes_now : Option (List ℕ)) (shelf_faults shelf_faults_now : ℕ) (printed printed_now : Option (List ℕ)) (failed : Type 0) (status : ℕ) : Type 0 where
+  pub run : RunAnswers files bytes bytes_now shelf_faults shelf_faults_now printed printed_now status
   pub complete : (failed → ⊥) → status ≢ 5 → memory_refusals run.turns ≡ 0 → run.given.is_past ≡ false →
       (status ≡ 0) × (run.turns ≡ map plain_turn run.given.lines)
 
 -- A run of `serve` over a source, a shelf and a station: what it did to them, as their views tell it, and its status.
 pub record ServeRan {S F T : Type 0} (source : S → SourceView) (shelf : F → ShelfView) (station : T → StationView) (old_source new_source : S) (old_shelf new_shelf : F) (old_station new_station : T) (status : ℕ) : Type 0 where
   pub answers : IfSome (files_of (shelf old_shelf)) (λ files.
-      IsAnswered files (left_of (source old_source)) (shelf old_shelf).faults (shelf new_shelf).faults (printed_of (station old_station)) (printed_of (station new_station))
+      IsAnswered files (left_of (source old_source)) (left_of (source new_source)) (shelf old_shelf).faults (shelf new_shelf).faults (printed_of (station old_station)) (printed_of (station new_station))
       (HasRisen (source old_source).faults (source new_source).faults ⊎ HasRisen (shelf old_shelf).faults (shelf new_shelf).faults ⊎ HasRisen (station old_station).faults (station new_station).faults)
       status)
   -- With 0 nothing is left.

@@ -41,7 +41,7 @@ pub(crate) fn run<S: Source, F: Shelf, T: Station>(
     requires file_limit { file_limit_of cutter.old ≡ 2 ^ 40 }
     requires fresh { IsFresh cutter.old }
     ensures answers { IfSome (files_of (F.view shelf.old)) (λ files.
-        RunAnswers files (left_of (S.view source.old)) (F.view shelf.old).faults (F.view shelf.new).faults (printed_of (T.view station.old)) (printed_of (T.view station.new)) result) }
+        RunAnswers files (left_of (S.view source.old)) (left_of (S.view source.new)) (F.view shelf.old).faults (F.view shelf.new).faults (printed_of (T.view station.old)) (printed_of (T.view station.new)) result) }
     ensures emptied { result ≡ 0 → IfSome (left_of (S.view source.new)) (λ bytes. bytes ≡ []) }
     ensures taken { Taken 65536 (left_of (S.view source.old)) (left_of (S.view source.new)) }
     ensures same { SameFiles (F.view shelf.old) (F.view shelf.new) }

@@ -2,23 +2,23 @@ use Rattle.std.proofs.Common.{◌<◌, length, ◌∙◌, refl, sym, subst, inl,
 use Rattle.std.proofs.lemmas.Bool.{false≢true}
 use Rattle.gaz_outside.specs.Outside.{left_of, printed_of}
 use Rattle.gaz_outside.proofs.Runs.{areas_stay_same, areas_stay_on}
-use Rattle.gaz_lines.specs.Cutter.{rest}
+use Rattle.gaz_lines.specs.Cutter.{rest, line_of}
 use Rattle.gaz_lines.proofs.Told.{told_start}
 use Rattle.gaz_serve.specs.declared.session.EndFault.{EndFault}
 use Rattle.gaz_serve.specs.Step.{OneStep}
 use Rattle.gaz_serve.proofs.Changing.{weaker, both_known, told_before, always}
 use Rattle.gaz_serve.proofs.Running.{UnderWay, way_first, run_ends, run_fails, run_cut, next_way, long_step, long_told, line_told}
-use Rattle.gaz_serve.proofs.Taken.{spent_start, spent_line, taken_nothing, taken_next}
+use Rattle.gaz_serve.proofs.Taken.{counted_start, counted_line, spent_of, heard_all, taken_nothing, taken_next}
 use Rattle.gaz_serve.proofs.run.run.Goals as goal
 
 pub loop-line-init : goal.loop-line-init
 loop-line-init g c = record {
-  way = always {P = λ files. UnderWay files (left_of (g.S.Source.view c.args.source.now)) (rest c.args.cutter.now (left_of (g.S.Source.view c.args.source.now))) c.args.session.now (g.F.Shelf.view c.args.shelf.now).faults (g.F.Shelf.view c.args.shelf.now).faults (printed_of (g.T.Station.view c.args.station.now)) (printed_of (g.T.Station.view c.args.station.now))} _
-      (λ files. way_first files _ _ _ _ _ (g.met.F.Shelf.faults_fit c.args.shelf.now) c.requires.first (told_start 4096 c.args.cutter.now _ c.requires.fresh c.requires.line_limit c.requires.file_limit));
+  way = always {P = λ files. UnderWay files (left_of (g.S.Source.view c.args.source.now)) (rest c.args.cutter.now (left_of (g.S.Source.view c.args.source.now))) (line_of c.args.cutter.now) c.args.session.now (g.F.Shelf.view c.args.shelf.now).faults (g.F.Shelf.view c.args.shelf.now).faults (printed_of (g.T.Station.view c.args.station.now)) (printed_of (g.T.Station.view c.args.station.now))} _
+      (λ files. way_first files _ _ _ _ _ _ (g.met.F.Shelf.faults_fit c.args.shelf.now) c.requires.fresh.number c.requires.first (told_start 4096 c.args.cutter.now _ c.requires.fresh c.requires.line_limit c.requires.file_limit));
   line_limit = c.requires.line_limit;
   reads = inl c.requires.fresh.reads;
   ended = λ is. absurd (false≢true (sym c.requires.fresh.ended ∙ is));
-  spent = inl (spent_start c.args.cutter.now _ c.requires.fresh c.requires.file_limit);
+  counted = inl (counted_start c.args.cutter.now _ c.requires.fresh c.requires.file_limit);
   taken = taken_nothing 65536 _;
   same = record { told = refl; files = refl };
   source = refl;
@@ -30,15 +30,19 @@ loop-line-init g c = record {
 pub returns-in-Ok-None-clause-answers : goal.returns-in-Ok-None-clause-answers
 returns-in-Ok-None-clause-answers g c =
     let gave = rw (c.in-Ok-None.is, c.in-Ok-None.field-0-is) at c.next_source.follows.holds-at-none.gave in
-    weaker _ (λ files way. run_ends files _ _ _ _ _ _ _ way 0 false gave.gives.1 (λ is. absurd (omega (arith, is))) (λ is. absurd (omega (arith, is))) (λ is. refl) (λ is. absurd (omega (arith, is)))) c.loop-line.invariant.way
+    weaker _ (λ files way. run_ends files _ _ _ _ _ _ _ _ way 0 false _ gave.gives.1 (λ is. absurd (omega (arith, is))) (λ is. absurd (omega (arith, is))) (λ is. absurd (omega (arith, is))) (λ is. refl) (λ is. absurd (omega (arith, is)))) c.loop-line.invariant.way
 
 pub returns-in-Err-FileTooLong-clause-answers : goal.returns-in-Err-FileTooLong-clause-answers
 returns-in-Err-FileTooLong-clause-answers g c =
     let gave = rw (c.in-Err-FileTooLong.is, c.in-Err-FileTooLong.field-0-is) at c.next_source.follows.holds-at-none.gave in
-    weaker _ (λ files way. run_ends files _ _ _ _ _ _ _ way 7 true gave.gives.1 (λ is. absurd (omega (arith, is))) (λ is. absurd (omega (arith, is))) (λ is. absurd (omega (arith, is))) (λ is. refl)) c.loop-line.invariant.way
+    weaker _ (λ files way. run_ends files _ _ _ _ _ _ _ _ way 7 true _ gave.gives.1 (λ is. absurd (omega (arith, is))) (λ is. absurd (omega (arith, is))) (λ is. absurd (omega (arith, is))) (λ is. absurd (omega (arith, is))) (λ is. refl)) c.loop-line.invariant.way
 
 pub returns-in-Err-Failed-clause-answers : goal.returns-in-Err-Failed-clause-answers
-returns-in-Err-Failed-clause-answers g c = weaker _ (λ files way. run_fails files _ _ _ _ _ _ _ way 4 refl) c.loop-line.invariant.way
+returns-in-Err-Failed-clause-answers g c =
+    let i = c.loop-line.invariant in
+    let e = c.next_source.ensures in
+    let heard = heard_all _ _ _ _ _ _ _ (λ ended. rw c.in-Err-Failed.field-0-is at (c.in-Err-Failed.ensures.rests ended).1) i.counted (rw c.in-Err-Failed.field-0-is at c.in-Err-Failed.ensures.waits_in_vain) in
+    weaker _ (λ files way. run_fails files _ _ _ _ _ _ _ _ way 4 _ refl heard) i.way
 
 pub returns-in-Err-Station-clause-answers : goal.returns-in-Err-Station-clause-answers
 returns-in-Err-Station-clause-answers g c =
@@ -46,7 +50,7 @@ returns-in-Err-Station-clause-answers g c =
     let gave = rw (c.in-Ok-Some.is, c.in-Ok-Some.field-0-is) at c.next_source.follows.holds-at-none.gave in
     both_known {B = λ files. OneStep files c.in-Ok-Some.line.now c.loop-line.session c.answer.new.session (g.F.Shelf.view c.loop-line.shelf) (g.F.Shelf.view c.answer.new.shelf) (g.T.Station.view c.loop-line.station) (g.T.Station.view c.answer.new.station) c.answer.result} _ i.way
     (told_before (λ files. OneStep files c.in-Ok-Some.line.now c.loop-line.session c.answer.new.session (g.F.Shelf.view c.loop-line.shelf) (g.F.Shelf.view c.answer.new.shelf) (g.T.Station.view c.loop-line.station) (g.T.Station.view c.answer.new.station) c.answer.result) (g.F.Shelf.view c.args.shelf.now) (g.F.Shelf.view c.loop-line.shelf) i.same.files c.answer.ensures.step)
-    (λ files way step. run_cut files _ _ _ _ _ _ _ way c.in-Ok-Some.line.now gave.line.cuts.is_line _ (line_told _ _ c.in-Ok-Some.line.now _ _ gave.gives way.told) _ _ _ _ _ refl refl 3 refl c.in-Err-Station.field-0 (rw c.in-Err-Station.is at step))
+    (λ files way step. run_cut files _ _ _ _ _ _ _ _ way c.in-Ok-Some.line.now gave.line.cuts.is_line _ (line_told _ _ c.in-Ok-Some.line.now _ _ gave.gives way.told) _ _ _ _ _ refl refl 3 _ refl c.in-Err-Station.field-0 (rw c.in-Err-Station.is at step))
 
 pub loop-line-preserved-in_default : goal.loop-line-preserved-in_default
 loop-line-preserved-in_default g c =
@@ -56,15 +60,15 @@ loop-line-preserved-in_default g c =
     record {
       way = both_known {B = λ files. OneStep files c.in-Ok-Some.line.now c.loop-line.session c.answer.new.session (g.F.Shelf.view c.loop-line.shelf) (g.F.Shelf.view c.answer.new.shelf) (g.T.Station.view c.loop-line.station) (g.T.Station.view c.answer.new.station) c.answer.result} _ i.way
           (told_before (λ files. OneStep files c.in-Ok-Some.line.now c.loop-line.session c.answer.new.session (g.F.Shelf.view c.loop-line.shelf) (g.F.Shelf.view c.answer.new.shelf) (g.T.Station.view c.loop-line.station) (g.T.Station.view c.answer.new.station) c.answer.result) (g.F.Shelf.view c.args.shelf.now) (g.F.Shelf.view c.loop-line.shelf) i.same.files c.answer.ensures.step)
-          (λ files way step. next_way files _ _ _ _ _ _ _ way c.in-Ok-Some.line.now gave.line.cuts.is_line _ (line_told _ _ c.in-Ok-Some.line.now _ _ gave.gives way.told) _ _ _ _ _ refl refl (rw c.in_default.is at step));
+          (λ files way step. next_way files _ _ _ _ _ _ _ _ way c.in-Ok-Some.line.now gave.line.cuts.is_line _ (line_told _ _ c.in-Ok-Some.line.now _ _ gave.gives way.told) _ _ _ _ _ refl refl _ gave.numbers (rw c.in_default.is at step));
       line_limit = gave.line_limit ∙ i.line_limit;
       reads = inr c.next_source.follows.holds-at-none.reads;
       ended = gave.ended;
-      spent = elim i.spent [
-        | inl s ↦ spent_line _ _ _ c.in-Ok-Some.line.now _ _ _ gave.line.cuts s
+      counted = elim i.counted [
+        | inl k ↦ counted_line _ _ _ _ _ c.in-Ok-Some.line.now _ _ _ gave.numbers gave.line.cuts k
         | inr ended ↦ inr (gave.still_ended ended)
       ];
-      taken = taken_next (λ s. left_of (g.S.Source.view s)) _ _ _ _ _ _ _ (λ is. (e.rests is).0) i.spent e.waits i.taken;
+      taken = taken_next (λ s. left_of (g.S.Source.view s)) _ _ _ _ _ _ _ (λ is. (e.rests is).0) (spent_of _ _ _ _ _ i.counted) e.waits i.taken;
       same = record { told = c.answer.ensures.same.told ∙ i.same.told; files = c.answer.ensures.same.files ∙ i.same.files };
       source = c.in-Ok-Some.ensures.cause ∙ i.source;
       station = c.in_default.ensures.cause.kept ∙ i.station;
@@ -79,7 +83,7 @@ returns-in-Err-Station-refuse_long-clause-answers g c =
     let long = subst (λ n. n < length gave.refuses.line) i.line_limit gave.refuses.too_long in
     weaker _ (λ files way.
     let line = long_told _ _ gave.refuses.line _ _ long gave.refuses.cuts.is_line gave.gives way.told in
-    run_cut files _ _ _ _ _ _ _ way line.0 line.2 _ line.3 _ (g.F.Shelf.view c.loop-line.shelf) (g.F.Shelf.view c.loop-line.shelf) _ _ refl refl 3 refl c.in-Err-Station-refuse_long.field-0
+    run_cut files _ _ _ _ _ _ _ _ way line.0 line.2 _ line.3 _ (g.F.Shelf.view c.loop-line.shelf) (g.F.Shelf.view c.loop-line.shelf) _ _ refl refl 3 _ refl c.in-Err-Station-refuse_long.field-0
     (long_step files line.0 _ (g.F.Shelf.view c.loop-line.shelf) _ _ _ line.1 (rw c.in-Err-Station-refuse_long.is at c.refuse_long.ensures.printed))) i.way
 
 pub loop-line-preserved : goal.loop-line-preserved
@@ -91,16 +95,16 @@ loop-line-preserved g c =
     record {
       way = weaker _ (λ files way.
           let line = long_told _ _ gave.refuses.line _ _ long gave.refuses.cuts.is_line gave.gives way.told in
-          next_way files _ _ _ _ _ _ _ way {E = EndFault} line.0 line.2 _ line.3 _ (g.F.Shelf.view c.loop-line.shelf) (g.F.Shelf.view c.loop-line.shelf) _ _ refl refl
+          next_way files _ _ _ _ _ _ _ _ way {E = EndFault} line.0 line.2 _ line.3 _ (g.F.Shelf.view c.loop-line.shelf) (g.F.Shelf.view c.loop-line.shelf) _ _ refl refl _ gave.numbers.0
           (long_step files line.0 _ (g.F.Shelf.view c.loop-line.shelf) _ _ _ line.1 (rw c.in_default-refuse_long.is at c.refuse_long.ensures.printed))) i.way;
       line_limit = gave.line_limit ∙ i.line_limit;
       reads = inr c.next_source.follows.holds-at-none.reads;
       ended = gave.ended;
-      spent = elim i.spent [
-        | inl s ↦ spent_line _ _ _ gave.refuses.line _ _ _ gave.refuses.cuts s
+      counted = elim i.counted [
+        | inl k ↦ counted_line _ _ _ _ _ gave.refuses.line _ _ _ gave.numbers.0 gave.refuses.cuts k
         | inr ended ↦ inr (gave.still_ended ended)
       ];
-      taken = taken_next (λ s. left_of (g.S.Source.view s)) _ _ _ _ _ _ _ (λ is. (e.rests is).0) i.spent e.waits i.taken;
+      taken = taken_next (λ s. left_of (g.S.Source.view s)) _ _ _ _ _ _ _ (λ is. (e.rests is).0) (spent_of _ _ _ _ _ i.counted) e.waits i.taken;
       same = i.same;
       source = (rw c.in-Err-TooLong.field-0-is at c.in-Err-TooLong.ensures.cause) ∙ i.source;
       station = c.in_default-refuse_long.ensures.cause.kept ∙ i.station;
@@ -122,28 +126,28 @@ pub returns-in-Ok-None-clause-taken : goal.returns-in-Ok-None-clause-taken
 returns-in-Ok-None-clause-taken g c =
     let i = c.loop-line.invariant in
     let e = c.next_source.ensures in
-    taken_next (λ s. left_of (g.S.Source.view s)) _ _ _ _ _ _ _ (λ is. (e.rests is).0) i.spent e.waits i.taken
+    taken_next (λ s. left_of (g.S.Source.view s)) _ _ _ _ _ _ _ (λ is. (e.rests is).0) (spent_of _ _ _ _ _ i.counted) e.waits i.taken
 
 pub returns-in-Err-FileTooLong-clause-taken : goal.returns-in-Err-FileTooLong-clause-taken
 returns-in-Err-FileTooLong-clause-taken g c =
     let i = c.loop-line.invariant in
     let e = c.next_source.ensures in
-    taken_next (λ s. left_of (g.S.Source.view s)) _ _ _ _ _ _ _ (λ is. (e.rests is).0) i.spent e.waits i.taken
+    taken_next (λ s. left_of (g.S.Source.view s)) _ _ _ _ _ _ _ (λ is. (e.rests is).0) (spent_of _ _ _ _ _ i.counted) e.waits i.taken
 
 pub returns-in-Err-Failed-clause-taken : goal.returns-in-Err-Failed-clause-taken
 returns-in-Err-Failed-clause-taken g c =
     let i = c.loop-line.invariant in
     let e = c.next_source.ensures in
-    taken_next (λ s. left_of (g.S.Source.view s)) _ _ _ _ _ _ _ (λ is. (e.rests is).0) i.spent e.waits i.taken
+    taken_next (λ s. left_of (g.S.Source.view s)) _ _ _ _ _ _ _ (λ is. (e.rests is).0) (spent_of _ _ _ _ _ i.counted) e.waits i.taken
 
 pub returns-in-Err-Station-clause-taken : goal.returns-in-Err-Station-clause-taken
 returns-in-Err-Station-clause-taken g c =
     let i = c.loop-line.invariant in
     let e = c.next_source.ensures in
-    taken_next (λ s. left_of (g.S.Source.view s)) _ _ _ _ _ _ _ (λ is. (e.rests is).0) i.spent e.waits i.taken
+    taken_next (λ s. left_of (g.S.Source.view s)) _ _ _ _ _ _ _ (λ is. (e.rests is).0) (spent_of _ _ _ _ _ i.counted) e.waits i.taken
 
 pub returns-in-Err-Station-refuse_long-clause-taken : goal.returns-in-Err-Station-refuse_long-clause-taken
 returns-in-Err-Station-refuse_long-clause-taken g c =
     let i = c.loop-line.invariant in
     let e = c.next_source.ensures in
-    taken_next (λ s. left_of (g.S.Source.view s)) _ _ _ _ _ _ _ (λ is. (e.rests is).0) i.spent e.waits i.taken
+    taken_next (λ s. left_of (g.S.Source.view s)) _ _ _ _ _ _ _ (λ is. (e.rests is).0) (spent_of _ _ _ _ _ i.counted) e.waits i.taken

@@ -2,20 +2,20 @@ use Rattle.std.proofs.Common.{◌≡◌, ◌⊎◌}
 use Rattle.std.specs.Prelude.{IfSome, []}
 use Rattle.gaz_outside.specs.Outside.{SameFiles, left_of, files_of, printed_of}
 use Rattle.gaz_outside.specs.Station.{AreasStay}
-use Rattle.gaz_lines.specs.Cutter.{rest, pending, HasEnded, MayReadSource, line_limit_of, allowed_of}
+use Rattle.gaz_lines.specs.Cutter.{rest, pending, line_of, HasEnded, MayReadSource, line_limit_of, allowed_of}
 use Rattle.gaz_serve.specs.Serve.{Taken}
 use Rattle.gaz_serve.proofs.Running.{UnderWay}
-use Rattle.gaz_serve.proofs.Taken.{Spent}
+use Rattle.gaz_serve.proofs.Taken.{Counted}
 use Rattle.gaz_serve.proofs.run.run.Given as goal
 
 abbrev pub invariant-loop-line : goal.invariant-loop-line
 invariant-loop-line g l = record {
-  way : IfSome (files_of (g.F.Shelf.view l.fn.shelf)) (λ files. UnderWay files (left_of (g.S.Source.view l.fn.source)) (rest l.cutter (left_of (g.S.Source.view l.source))) l.session
+  way : IfSome (files_of (g.F.Shelf.view l.fn.shelf)) (λ files. UnderWay files (left_of (g.S.Source.view l.fn.source)) (rest l.cutter (left_of (g.S.Source.view l.source))) (line_of l.cutter) l.session
       (g.F.Shelf.view l.fn.shelf).faults (g.F.Shelf.view l.shelf).faults (printed_of (g.T.Station.view l.fn.station)) (printed_of (g.T.Station.view l.station)));
   line_limit : line_limit_of l.cutter ≡ 4096;
   reads : MayReadSource l.cutter;
   ended : HasEnded l.cutter → IfSome (left_of (g.S.Source.view l.source)) (λ bytes. bytes ≡ []);
-  spent : Spent (allowed_of l.cutter) (pending l.cutter (left_of (g.S.Source.view l.source))) (left_of (g.S.Source.view l.fn.source)) ⊎ HasEnded l.cutter;
+  counted : Counted (line_of l.cutter) (allowed_of l.cutter) (pending l.cutter (left_of (g.S.Source.view l.source))) (left_of (g.S.Source.view l.fn.source)) ⊎ HasEnded l.cutter;
   taken : Taken 65536 (left_of (g.S.Source.view l.fn.source)) (left_of (g.S.Source.view l.source));
   same : SameFiles (g.F.Shelf.view l.fn.shelf) (g.F.Shelf.view l.shelf);
   source : (g.S.Source.view l.source).faults ≡ (g.S.Source.view l.fn.source).faults;
