@@ -1,7 +1,7 @@
 -- What a load and a day come to, from what their files come to.
 use Rattle.std.proofs.Common.{◌≡◌, ◌≢◌, ℕ, Bool, true, false, List, [], ◌∷◌, refl, ap, arith, Option, Some, None, ◌∙◌, sym, subst, ◌⊎◌, inl, inr}
 use Rattle.std.specs.Prelude.{IfSome, IsSome, Result, Ok, Err, option_and_then, ok_or, if◌then◌else◌}
-use Rattle.gaz_outside.specs.Outside.{ShelfView, OpensNumber, files_of, bytes_of}
+use Rattle.gaz_outside.specs.Outside.{ShelfView, OpensNumber, SameNumbers, files_of, bytes_of}
 use Rattle.gaz_num.specs.declared.words.FileName.{FileName}
 use Rattle.gaz_num.specs.declared.words.FileName.TheVariants.{Rows, Modifications, Deletes}
 use Rattle.gaz_num.specs.Refusal.{Refusal, absent, ◌>>=◌}
@@ -11,7 +11,7 @@ use Rattle.gaz_plain.specs.Fold.{File, fold}
 use Rattle.gaz_plain.specs.Load.{Files, load, day, files_of as files_named, day_files, in_sequence}
 use Rattle.gaz_serve.specs.declared.change.ChangeFault.{ChangeFault}
 use Rattle.gaz_serve.specs.declared.change.ChangeFault.TheVariants.{NotLoaded, Sequence, Absent, Shelf, TooLong, Malformed, Full, Memory}
-use Rattle.gaz_serve.specs.Change.{Gives, Opened}
+use Rattle.gaz_serve.specs.Change.{Gives, Opened, NoneOpen, Closes}
 use Rattle.gaz_plain.proofs.Folds.{fold-append}
 use Rattle.gaz_serve.proofs.Folding.{file_of}
 
@@ -179,3 +179,9 @@ day_second gaz date known first mid result next is modified deleted =
 -- a fact of the files that the shelf told before
 pub told_before : (P : Files → Type 0) (old new : ShelfView) → files_of new ≡ files_of old → IfSome (files_of new) P → IfSome (files_of old) P
 told_before P old new same h = subst (λ known. IfSome known P) same h
+
+-- The numbers are as they were or none is open, also after one more request.
+pub closes_on : (names : List FileName) (first mid new : ShelfView) → SameNumbers first mid ⊎ NoneOpen mid → Closes names mid new → SameNumbers first new ⊎ NoneOpen new
+closes_on [] first mid new (inl same) stay = inl (λ n. stay n ∙ same n)
+closes_on [] first mid new (inr none) stay = inr (λ n. stay n ∙ none n)
+closes_on (name ∷ names) first mid new either none = inr none

@@ -1,11 +1,12 @@
 -- How a run of requests may end.
 use Rattle.std.specs.Prelude.{◌≡◌, ◌≢◌, ◌≤◌, ℕ, length, ◌+◌, ◌-◌, ◌^◌, ◌⊎◌, min, Bool, true, false, List, [], ◌∷◌, ◌++◌, map, count_by, Option, IfSome}
 use Rattle.std.specs.Io.KnownBytes.{append_known, prepend_known}
-use Rattle.gaz_outside.specs.Outside.{SourceView, ShelfView, StationView, SameFiles, HasRisen, RisesOnce, IsPrefix, left_of, files_of, printed_of}
+use Rattle.gaz_outside.specs.Outside.{SourceView, ShelfView, StationView, SameFiles, HasRisen, RisesOnce, SameNumbers, IsPrefix, left_of, files_of, printed_of}
 use Rattle.gaz_outside.specs.Station.{AreasStay}
 use Rattle.gaz_plain.specs.Load.{Files}
 use Rattle.gaz_serve.specs.Run.{Turn, Verdict, plain, memory, shelf, at_first, IsLegal, replies, shelf_refusals}
 use Rattle.gaz_num.specs.Pieces.{ended_lines}
+use Rattle.gaz_serve.specs.Change.{NoneOpen}
 use Rattle.gaz_serve.specs.Serve.{Given, Taken}
 
 -- the request was refused for want of memory
@@ -84,6 +85,8 @@ pub record ServeRan {S F T : Type 0} (source : S → SourceView) (shelf : F → 
   -- With 5 nothing was called.
   pub untouched : status ≡ 5 → (new_source ≡ old_source) × (new_shelf ≡ old_shelf) × (new_station ≡ old_station)
   pub same : SameFiles (shelf old_shelf) (shelf new_shelf)
+  -- No file is left open by a request.
+  pub numbers : SameNumbers (shelf old_shelf) (shelf new_shelf) ⊎ NoneOpen (shelf new_shelf)
   -- A call that failed was the only one of its object, and ended the run with its status. Of the shelf `causes` tells.
   pub station_failed : status ≡ 3 → RisesOnce (station old_station).faults (station new_station).faults
   pub station_kept : status ≢ 3 → (station new_station).faults ≡ (station old_station).faults

@@ -1,10 +1,11 @@
 //! A run of requests, one line of the source after another.
 ghost use Rattle.std.specs.Prelude.{◌≡◌, ◌≢◌, ◌⊎◌, ◌^◌, ◌∷◌, [], IfOk, IfSome, codes, vec_len};
-ghost use Rattle.gaz_outside.specs.Outside.{HasCause, Prints, RisesOnce, SameFiles, left_of, files_of, printed_of};
+ghost use Rattle.gaz_outside.specs.Outside.{HasCause, Prints, RisesOnce, SameFiles, SameNumbers, left_of, files_of, printed_of};
 ghost use Rattle.gaz_outside.specs.Station.{AreasStay};
 ghost use Rattle.gaz_num.specs.Refusal.{request};
 ghost use Rattle.gaz_lines.specs.Cutter.{line_limit_of, file_limit_of, IsFresh};
 ghost use Rattle.gaz_reply.specs.Reply.{reply_text, refused};
+ghost use Rattle.gaz_serve.specs.Change.{NoneOpen};
 ghost use Rattle.gaz_serve.specs.Run.{at_first};
 ghost use Rattle.gaz_serve.specs.Ran.{RunAnswers};
 ghost use Rattle.gaz_serve.specs.Serve.{Taken};
@@ -45,6 +46,7 @@ pub(crate) fn run<S: Source, F: Shelf, T: Station>(
     ensures emptied { result ≡ 0 → IfSome (left_of (S.view source.new)) (λ bytes. bytes ≡ []) }
     ensures taken { Taken 65536 (left_of (S.view source.old)) (left_of (S.view source.new)) }
     ensures same { SameFiles (F.view shelf.old) (F.view shelf.new) }
+    ensures numbers { SameNumbers (F.view shelf.old) (F.view shelf.new) ⊎ NoneOpen (F.view shelf.new) }
     ensures station { result ≡ 3 → RisesOnce (T.view station.old).faults (T.view station.new).faults }
     ensures station_kept { result ≢ 3 → (T.view station.new).faults ≡ (T.view station.old).faults }
     ensures source { result ≡ 4 → RisesOnce (S.view source.old).faults (S.view source.new).faults }

@@ -6,7 +6,7 @@ use Rattle.gaz_lines.specs.Cutter.{rest, line_of}
 use Rattle.gaz_lines.proofs.Told.{told_start}
 use Rattle.gaz_serve.specs.declared.session.EndFault.{EndFault}
 use Rattle.gaz_serve.specs.Step.{OneStep}
-use Rattle.gaz_serve.proofs.Changing.{weaker, both_known, told_before, always}
+use Rattle.gaz_serve.proofs.Changing.{weaker, both_known, told_before, always, closes_on}
 use Rattle.gaz_serve.proofs.Running.{UnderWay, way_first, run_ends, run_fails, run_cut, next_way, long_step, long_told, line_told}
 use Rattle.gaz_serve.proofs.Taken.{counted_start, counted_line, spent_of, heard_all, taken_nothing, taken_next}
 use Rattle.gaz_serve.proofs.run.run.Goals as goal
@@ -21,6 +21,7 @@ loop-line-init g c = record {
   counted = inl (counted_start c.args.cutter.now _ c.requires.fresh c.requires.file_limit);
   taken = taken_nothing 65536 _;
   same = record { told = refl; files = refl };
+  numbers = inl (λ n. refl);
   source = refl;
   station = refl;
   told = refl;
@@ -69,6 +70,7 @@ loop-line-preserved-in_default g c =
         | inr ended ↦ inr (gave.still_ended ended)
       ];
       taken = taken_next (λ s. left_of (g.S.Source.view s)) _ _ _ _ _ _ _ (λ is. (e.rests is).0) (spent_of _ _ _ _ _ i.counted) e.waits i.taken;
+      numbers = closes_on _ (g.F.Shelf.view c.args.shelf.now) (g.F.Shelf.view c.loop-line.shelf) (g.F.Shelf.view c.answer.new.shelf) i.numbers c.answer.ensures.closes;
       same = record { told = c.answer.ensures.same.told ∙ i.same.told; files = c.answer.ensures.same.files ∙ i.same.files };
       source = c.in-Ok-Some.ensures.cause ∙ i.source;
       station = c.in_default.ensures.cause.kept ∙ i.station;
@@ -106,6 +108,7 @@ loop-line-preserved g c =
       ];
       taken = taken_next (λ s. left_of (g.S.Source.view s)) _ _ _ _ _ _ _ (λ is. (e.rests is).0) (spent_of _ _ _ _ _ i.counted) e.waits i.taken;
       same = i.same;
+      numbers = i.numbers;
       source = (rw c.in-Err-TooLong.field-0-is at c.in-Err-TooLong.ensures.cause) ∙ i.source;
       station = c.in_default-refuse_long.ensures.cause.kept ∙ i.station;
       told = c.refuse_long.ensures.told ∙ i.told;
@@ -151,3 +154,6 @@ returns-in-Err-Station-refuse_long-clause-taken g c =
     let i = c.loop-line.invariant in
     let e = c.next_source.ensures in
     taken_next (λ s. left_of (g.S.Source.view s)) _ _ _ _ _ _ _ (λ is. (e.rests is).0) (spent_of _ _ _ _ _ i.counted) e.waits i.taken
+
+pub returns-in-Err-Station-clause-numbers : goal.returns-in-Err-Station-clause-numbers
+returns-in-Err-Station-clause-numbers g c = closes_on _ (g.F.Shelf.view c.args.shelf.now) (g.F.Shelf.view c.loop-line.shelf) (g.F.Shelf.view c.answer.new.shelf) c.loop-line.invariant.numbers c.answer.ensures.closes

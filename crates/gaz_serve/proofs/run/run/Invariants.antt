@@ -1,8 +1,9 @@
 use Rattle.std.proofs.Common.{◌≡◌, ◌⊎◌}
 use Rattle.std.specs.Prelude.{IfSome, []}
-use Rattle.gaz_outside.specs.Outside.{SameFiles, left_of, files_of, printed_of}
+use Rattle.gaz_outside.specs.Outside.{SameFiles, SameNumbers, left_of, files_of, printed_of}
 use Rattle.gaz_outside.specs.Station.{AreasStay}
 use Rattle.gaz_lines.specs.Cutter.{rest, pending, line_of, HasEnded, MayReadSource, line_limit_of, allowed_of}
+use Rattle.gaz_serve.specs.Change.{NoneOpen}
 use Rattle.gaz_serve.specs.Serve.{Taken}
 use Rattle.gaz_serve.proofs.Running.{UnderWay}
 use Rattle.gaz_serve.proofs.Taken.{Counted}
@@ -18,6 +19,7 @@ invariant-loop-line g l = record {
   counted : Counted (line_of l.cutter) (allowed_of l.cutter) (pending l.cutter (left_of (g.S.Source.view l.source))) (left_of (g.S.Source.view l.fn.source)) ⊎ HasEnded l.cutter;
   taken : Taken 65536 (left_of (g.S.Source.view l.fn.source)) (left_of (g.S.Source.view l.source));
   same : SameFiles (g.F.Shelf.view l.fn.shelf) (g.F.Shelf.view l.shelf);
+  numbers : SameNumbers (g.F.Shelf.view l.fn.shelf) (g.F.Shelf.view l.shelf) ⊎ NoneOpen (g.F.Shelf.view l.shelf);
   source : (g.S.Source.view l.source).faults ≡ (g.S.Source.view l.fn.source).faults;
   station : (g.T.Station.view l.station).faults ≡ (g.T.Station.view l.fn.station).faults;
   told : (g.T.Station.view l.station).is_told ≡ (g.T.Station.view l.fn.station).is_told;

@@ -18,6 +18,7 @@ returns-in-Ok g c =
       taken = e.taken;
       untouched = λ is. absurd (not_five c.run.result e.others is);
       same = e.same;
+      numbers = e.numbers;
       station_failed = e.station;
       station_kept = e.station_kept;
       source_failed = e.source;
@@ -38,6 +39,7 @@ returns-in-Err-Memory g c =
       taken = taken_nothing 65536 _;
       untouched = λ is. (refl, refl, refl);
       same = record { told = refl; files = refl };
+      numbers = inl (λ n. refl);
       station_failed = λ is. absurd (omega (arith, is));
       station_kept = λ is. refl;
       source_failed = λ is. absurd (omega (arith, is));
