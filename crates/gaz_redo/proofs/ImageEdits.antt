@@ -20,19 +20,19 @@ use Rattle.gaz_redo.proofs.Phases.{and_first, and_second, and_true}
 use Rattle.gaz_redo.proofs.LogForm.{slot_facts}
 
 -- a test that isn't true is false
-two_cases : (b : Bool) → (b ≡ true) ⊎ (b ≡ false)
+pub two_cases : (b : Bool) → (b ≡ true) ⊎ (b ≡ false)
 two_cases true = inl refl
 two_cases false = inr refl
 
-by_tests : (b c d : Bool) → (b || (c && d)) ≡ true → (b ≡ true) ⊎ ((c ≡ true) × (d ≡ true))
+pub by_tests : (b c d : Bool) → (b || (c && d)) ≡ true → (b ≡ true) ⊎ ((c ≡ true) × (d ≡ true))
 by_tests true c d is = inl refl
 by_tests false c d is = inr (and_first c d is, and_second c d is)
 
-or_first : (b c d : Bool) → b ≡ true → (b || (c && d)) ≡ true
+pub or_first : (b c d : Bool) → b ≡ true → (b || (c && d)) ≡ true
 or_first true c d is = refl
 or_first false c d is = absurd (cc is)
 
-or_second : (b c d : Bool) → c ≡ true → d ≡ true → (b || (c && d)) ≡ true
+pub or_second : (b c d : Bool) → c ≡ true → d ≡ true → (b || (c && d)) ≡ true
 or_second true c d one two = refl
 or_second false c d one two = and_true c d one two
 
