@@ -19,6 +19,9 @@ const MODIFICATIONS: &str = "modifications-2024-03-02.txt";
 
 const DELETES: &str = "deletes-2024-03-02.txt";
 
+/// A row without its LF.
+const NO_LF: &str = "7\tG\t\t\t0\t0\tP\tPPL\tAA\t\t\t\t\t\t1\t\t\t\t2024-02-01";
+
 /// A file by its name and the texts of which it is made.
 type File<'a> = (&'a str, &'a [&'a str]);
 
@@ -88,7 +91,6 @@ fn expect_all(rt: &impl Abort, alloc: Global, runs: &[Run<'_>]) -> Result<(), Fa
 
 #[test]
 fn loads_and_gets(rt: HostRuntime) -> Result<(), Fail> {
-    let no_lf = "7\tG\t\t\t0\t0\tP\tPPL\tAA\t\t\t\t\t\t1\t\t\t\t2024-02-01";
     expect_all(
         &rt,
         rt.alloc(),
@@ -107,9 +109,9 @@ fn loads_and_gets(rt: HostRuntime) -> Result<(), Fail> {
             },
             Run {
                 name: "the last line of the dump without LF, and of the requests",
-                files: &[(DUMP, &[A1, no_lf])],
+                files: &[(DUMP, &[A1, NO_LF])],
                 requests: "load 2024-03-01\nget 7",
-                text: &["ok load 2024-03-01\n", no_lf, "\nok 1\n"],
+                text: &["ok load 2024-03-01\n", NO_LF, "\nok 1\n"],
             },
             Run {
                 name: "the later of two rows with one id",
