@@ -169,6 +169,30 @@ fn stop_in_a_recovery_leaves_all_images(rt: HostRuntime) -> Result<(), Fail> {
     Ok(())
 }
 
+/// A commit is stopped behind its open gate, the recovery at each of its calls, and the recovery after that at each of its
+/// own, each of these with another kind of stop.
+#[test]
+fn stops_in_two_recoveries_leave_all_images(rt: HostRuntime) -> Result<(), Fail> {
+    let alloc = rt.alloc();
+    let images = two_pages(alloc)?;
+    let mut station = empty_station(alloc, 9);
+    assert_eq!(rt; commit(&mut station, &images), Err(RedoFault::Failed));
+    for calls in 0..18 {
+        for (more, (keep, fill)) in (0..18).zip(STOPS.into_iter().chain(STOPS)) {
+            let mut first = station.after_stop(keep, fill)?;
+            stop(&mut first, calls);
+            let _ = recover(&mut first);
+            let mut second = first.after_stop(keep, fill)?;
+            stop(&mut second, more);
+            let _ = recover(&mut second);
+            let mut third = second.after_stop(keep, fill)?;
+            assert!(rt; recover(&mut third).is_ok());
+            assert!(rt; holds_both(&third));
+        }
+    }
+    Ok(())
+}
+
 #[test]
 fn each_call_that_fails_ends_the_commit(rt: HostRuntime) -> Result<(), Fail> {
     let alloc = rt.alloc();
