@@ -51,11 +51,11 @@ pub(crate) enum Step {
 
 impl LineCutter {
     ghost use Rattle.gaz_lines.specs.Lines.{IsLine};
-    ghost use Rattle.gaz_lines.specs.Window.{bytes_at, text_at, has_room};
+    ghost use Rattle.gaz_lines.specs.Window.{bytes_at, text_at};
     ghost use Rattle.gaz_lines.specs.Cutter.{held, pending, HasEnded, IsPast, ReadsSource, MayReadSource, line_limit_of, file_limit_of, allowed_of, line_of, place_of, ReadsFile, MayReadFile, BlamesFile, IsFresh, Gave, GaveOfSource, GaveOfFile, Waited, FailedOnce, IfLine, OnFailed, answer_of};
     ghost use Rattle.gaz_lines.specs.declared.fault.LineFault.TheVariants.{FileTooLong};
     ghost use Rattle.gaz_lines.specs.contracts.cutter.LineCutter.{the_row};
-    ghost use Rattle.gaz_lines.specs.Step.{SameBut, CutOff, Stepped, MadeRoom};
+    ghost use Rattle.gaz_lines.specs.Step.{CutOff, Stepped, MadeRoom};
 
     /// A cutter that gives lines up to the line limit, of texts up to the file limit, in bytes. It reserves its buffer.
     pub fn new(alloc: Global, line_limit: u32, file_limit: u64) -> Result<Self, AllocError>

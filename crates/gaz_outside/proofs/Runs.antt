@@ -1,7 +1,7 @@
 -- How a run of calls on a station goes on.
 use Rattle.std.proofs.Common.{Bool, IsTrue, ◌≡◌, ◌≢◌, ◌⊎◌, inl, inr, ⊎_elim, ℕ, List, refl, sym, ◌∙◌, subst, arith}
 use Rattle.gaz_outside.specs.declared.station.Area.{Area}
-use Rattle.gaz_outside.specs.Station.{StationView, Outcome, Leaves, Elapses, Stays, Writes, Torn, LeavesOnly, Near, Confined, AnyIn, AreaStays, AreasStay, LeavesAreas, Appends, TornInTwo}
+use Rattle.gaz_outside.specs.Station.{StationView, Outcome, Leaves, Elapses, Stays, Writes, Torn, LeavesOnly, Near, Confined, AnyIn, AreaStays, AreasStay, LeavesAreas, Appends, Counts, TornInTwo}
 use Rattle.gaz_outside.specs.SameArea.{which}
 use Rattle.gaz_outside.proofs.TornWrites.{torn_none}
 
@@ -175,6 +175,8 @@ pub areas_stay_same : (v : StationView) → AreasStay v v
 areas_stay_same v = record {
   each = λ told a. record { bytes = refl; outcomes = λ c may. may };
   time = λ told. record { later = omega arith; nothing_else = λ t c le left. inl left; keeps = λ t c le left. left };
+  unread = refl;
+  unwritten = refl;
 }
 
 pub areas_stay_on : (old mid new : StationView) → mid.is_told ≡ old.is_told → AreasStay old mid → AreasStay mid new → AreasStay old new
@@ -182,15 +184,19 @@ areas_stay_on old mid new same first next = record {
   each = λ told a. area_stays_on old mid new a (first.each told a) (next.each (subst (λ (b : Bool). IsTrue b) (sym same) told) a);
   time = λ told. elapses_on old mid new (LeavesAreas old) (LeavesAreas mid) (first.time told) (next.time (subst (λ (b : Bool). IsTrue b) (sym same) told))
       (λ c leaves a. (first.each told a).outcomes (c.areas a) (leaves a));
+  unread = next.unread ∙ first.unread;
+  unwritten = next.unwritten ∙ first.unwritten;
 }
 
 -- A print leaves the areas.
-pub areas_stay_print : (piece : List ℕ) (old new : StationView) → (IsTrue old.is_told → Appends piece old new) → AreasStay old new
-areas_stay_print piece old new appends = record {
+pub areas_stay_print : (piece : List ℕ) (old new : StationView) → Counts 0 0 old new → (IsTrue old.is_told → Appends piece old new) → AreasStay old new
+areas_stay_print piece old new counts appends = record {
   each = λ told a. (appends told).areas a;
   time = λ told. let p = appends told in record {
     later = p.time.later;
     nothing_else = λ t c le left. ⊎_elim (λ past. inl past) (λ front. inr (λ a. (p.areas a).outcomes (c.areas a) (front.areas a))) (p.time.nothing_else t c le left);
     keeps = p.time.keeps;
   };
+  unread = omega (arith, counts.reads_grow, counts.reads);
+  unwritten = omega (arith, counts.writes_grow, counts.writes);
 }

@@ -71,10 +71,13 @@ pub record AreaStays (old new : StationView) (a : Area) : Type 0 where
 abbrev pub LeavesAreas : StationView → Outcome → Type 0
 LeavesAreas v c = (a : Area) → v.may_leave a (c.areas a)
 
--- Where bytes are told, every area stays, and a stop at no moment leaves more of the areas than before.
+-- Where bytes are told, every area stays, and a stop at no moment leaves more of the areas than before. No piece of them is
+-- read or written.
 pub record AreasStay (old new : StationView) : Type 0 where
   pub each : IsTrue old.is_told → (a : Area) → AreaStays old new a
   pub time : IsTrue old.is_told → Elapses old new (LeavesAreas old)
+  pub unread : new.reads ≡ old.reads
+  pub unwritten : new.writes ≡ old.writes
 
 -- nothing that is told changes
 pub record Stays (old new : StationView) : Type 0 where

@@ -1,11 +1,25 @@
 -- What a stop leaves of a station in memory, where of the writes that weren't synced it keeps the first ones.
-use Rattle.std.specs.Prelude.{ℕ, ◌+◌, ◌==◌, ◌||◌, nat_lt, Bool, false, List, [], ◌∷◌, length, replicate, if◌then◌else◌}
+use Rattle.std.specs.Prelude.{◌≡◌, ℕ, ◌+◌, ◌==◌, ◌||◌, nat_lt, Bool, false, List, [], ◌∷◌, length, replicate, Vec, if◌then◌else◌}
+use Rattle.std.specs.declared.alloc.Global.{Global}
 use Rattle.std.specs.List.{list_any}
 use Rattle.gaz_outside.specs.declared.station.Area.{Area}
+use Rattle.gaz_outside.specs.declared.areas.Areas.{Areas}
 use Rattle.gaz_outside.specs.declared.event.Event.{Event}
 use Rattle.gaz_outside.specs.declared.event.Event.TheVariants.{Began, Wrote, Synced, Printed}
 use Rattle.gaz_outside.specs.Station.{area_place, overlaid}
 use Rattle.gaz_outside.specs.Events.{area_bytes}
+
+-- A station that a stop left keeps the areas and the text that it begins with, and no call.
+abbrev pub HasBegun : List Event → Type 0
+HasBegun events = (areas : Areas) × (text : Vec ℕ Global) × (events ≡ Began areas text ∷ [])
+
+-- One event more is kept: a write of these bytes at this place.
+abbrev pub KeepsWrite : Area → ℕ → List ℕ → List Event → List Event → Type 0
+KeepsWrite area at bytes old new = (kept : Vec ℕ Global) × (kept.items ≡ bytes) × (new ≡ Wrote area at kept ∷ old)
+
+-- One event more is kept: a print of this piece.
+abbrev pub KeepsPrint : List ℕ → List Event → List Event → Type 0
+KeepsPrint piece old new = (kept : Vec ℕ Global) × (kept.items ≡ piece) × (new ≡ Printed kept ∷ old)
 
 -- It is a sync of the area.
 abbrev pub syncs : Event → Area → Bool

@@ -1,5 +1,5 @@
 //! The files of a device, in the current folder. Each is opened, or made, at the first call on its area.
-ghost use Rattle.std.specs.Prelude.{◌≡◌, ◌≤◌, ◌<◌, length, IfOk};
+ghost use Rattle.std.specs.Prelude.{◌≤◌, ◌<◌, length, IfOk};
 
 use crate::Area;
 use crate::dir_shelf::read_at_once;

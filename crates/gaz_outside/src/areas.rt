@@ -7,6 +7,7 @@ ghost use Rattle.gaz_outside.specs.Events.{area_bytes};
 use crate::Area;
 use std::alloc::{AllocError, Global};
 
+/// The bytes of each area.
 #[derive(Drop)]
 pub(crate) struct Areas {
     pub(crate) mark: Vec<u8>,
@@ -17,6 +18,7 @@ pub(crate) struct Areas {
 }
 
 impl Areas {
+    /// Five empty areas.
     pub(crate) fn new(alloc: Global) -> Self
         ensures { (a : Area) → area_bytes result a ≡ [] }
     {
@@ -42,6 +44,7 @@ impl Areas {
         })
     }
 
+    /// The bytes of an area.
     pub(crate) fn get(&self, area: Area) -> &[u8]
         ensures { result.now ≡ area_bytes self.now area }
     {

@@ -3,9 +3,9 @@ ghost use Rattle.std.specs.Prelude.{◌≡◌, ◌≢◌, ℕ, ◌≤◌, ◌<�
 ghost use Rattle.std.specs.IoError.{error_kind};
 ghost use Rattle.gaz_outside.specs.Outside.{RisesOnce, HasCause, SameFiles, Opens, Blames, files_of};
 
-use crate::adapters::TRIES;
 use crate::open_files::{NamedFile, OpenFiles};
 use crate::short_name::{ShortName, short_name};
+use crate::stdin_source::TRIES;
 use crate::{Failed, Shelf};
 use std::fs::{File, Files, OpenFile};
 use std::io;

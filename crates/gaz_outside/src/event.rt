@@ -1,16 +1,17 @@
 //! What a station in memory keeps of its calls.
 ghost use Rattle.std.specs.Prelude.{◌≡◌};
-ghost use Rattle.gaz_outside.specs.Station.{area_place};
 
 use crate::Area;
 use crate::areas::Areas;
 
+/// What a call that succeeded did.
 #[derive(Drop)]
 pub(crate) enum Event {
     /// What a stop had left, before the first call.
     Began(Areas, Vec<u8>),
     /// These bytes, at this place of the area.
     Wrote(Area, u64, Vec<u8>),
+    /// This area.
     Synced(Area),
     /// This piece.
     Printed(Vec<u8>),

@@ -23,6 +23,7 @@ impl<'a, R: Files + Print> FileStation<'a, R>
 where
     R::File: FileExt + Lock,
 {
+    /// With no file opened yet.
     pub fn new(rt: &'a R) -> Self
         ensures untold { IsFalse (⟦<FileStation<'a, R> as Station>⟧.view result).is_told }
         ensures faults { (⟦<FileStation<'a, R> as Station>⟧.view result).faults ≡ 0 }

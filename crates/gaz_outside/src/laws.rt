@@ -1,5 +1,5 @@
 //! What stops may leave of writes and syncs, over any station, and that a torn write may leave no less than is said here.
-ghost use Rattle.std.specs.Prelude.{◌≡◌, ◌≢◌, ◌≤◌, ◌<◌, ◌+◌, ◌^◌, ◌++◌, max, ℕ, List, length, take, drop, IsTrue, OnOk};
+ghost use Rattle.std.specs.Prelude.{◌≡◌, ◌≢◌, ◌≤◌, ◌<◌, ◌+◌, ◌^◌, ◌++◌, ℕ, List, length, take, IsTrue, OnOk};
 ghost use Rattle.gaz_outside.specs.declared.station.Area.{Area};
 ghost use Rattle.gaz_outside.specs.Outside.{HasCause};
 ghost use Rattle.gaz_outside.specs.Station.{Outcome, Torn, TornInTwo, Confined, AreaStays, IsStable, overlaid};

@@ -3,7 +3,7 @@ ghost use Rattle.std.specs.Prelude.{◌≡◌, ◌≢◌, ℕ, List, true, ◌�
 ghost use Rattle.gaz_outside.specs.Outside.{SameFiles, SameNumbers, Opens, Blames, HasCause, files_of, bytes_of};
 ghost use Rattle.gaz_outside.specs.Listed.{IsLastNamed, file_named, listed, name_at, opened_in, open_is_named};
 
-use crate::memory::{admit, copy_front};
+use crate::mem_source::{admit, copy_front};
 use crate::short_name::{ShortName, short_name};
 use crate::{Failed, Shelf};
 use std::alloc::AllocError;

@@ -6,7 +6,7 @@ ghost use Rattle.gaz_outside.specs.declared.station.Area.{Area};
 ghost use Rattle.gaz_outside.specs.Outside.{HasCause, Prints, RisesOnce};
 ghost use Rattle.gaz_outside.specs.Station.{Leaves, overlaid, pieces, IsStable, Stays, Writes, Appends, Counts, StillMayLeave, KeepsOutcomes, MayTear, MayCut};
 ghost use Rattle.gaz_outside.specs.Events.{area_bytes, seen, text_of, view_of, only_after, still_after, may_read, is_due, next_plan};
-ghost use Rattle.gaz_outside.specs.Stopped.{end_of, stopped};
+ghost use Rattle.gaz_outside.specs.Stopped.{end_of, stopped, HasBegun, KeepsWrite, KeepsPrint};
 ghost use Rattle.gaz_outside.specs.declared.event.Event.{Event};
 
 use crate::areas::Areas;
@@ -15,6 +15,7 @@ use crate::stopped::stopped_areas;
 use crate::{Area, Failed, Station};
 use std::alloc::{AllocError, Global};
 
+/// Five areas and a text in memory.
 #[derive(Drop)]
 pub struct MemStation {
     alloc: Global,
@@ -47,6 +48,7 @@ impl MemStation {
         ensures faults { (⟦<MemStation as Station>⟧.view result).faults ≡ 0 }
         ensures counts { ((⟦<MemStation as Station>⟧.view result).reads ≡ 0) × ((⟦<MemStation as Station>⟧.view result).writes ≡ 0) }
         ensures starved { starved_calls result ≡ 0 }
+        ensures kept { record_kept result ≡ [] }
     {
         MemStation {
             alloc,
@@ -69,6 +71,7 @@ impl MemStation {
         ensures keeps { KeepsOutcomes (⟦<MemStation as Station>⟧.view self.old) (⟦<MemStation as Station>⟧.view self.new) }
         ensures plan { plan_of self.new ≡ record (plan_of self.old) { left = calls } }
         ensures starved { starved_calls self.new ≡ starved_calls self.old }
+        ensures kept { record_kept self.new ≡ record_kept self.old }
         ensures counts { Counts 0 0 (⟦<MemStation as Station>⟧.view self.old) (⟦<MemStation as Station>⟧.view self.new) }
         ensures faults { (⟦<MemStation as Station>⟧.view self.new).faults ≡ (⟦<MemStation as Station>⟧.view self.old).faults }
     {
@@ -86,6 +89,7 @@ impl MemStation {
         ensures faults { IfOk result (λ after. (⟦<MemStation as Station>⟧.view after).faults ≡ 0) }
         ensures counts { IfOk result (λ after. ((⟦<MemStation as Station>⟧.view after).reads ≡ 0) × ((⟦<MemStation as Station>⟧.view after).writes ≡ 0)) }
         ensures starved { IfOk result (λ after. starved_calls after ≡ 0) }
+        ensures kept { IfOk result (λ after. HasBegun (record_kept after)) }
     {
         let areas = stopped_areas(self.alloc, &self.record_of_calls, keep, fill)?;
         let text = self.text.to_vec(self.alloc)?;
@@ -113,6 +117,7 @@ impl MemStation {
         self.areas.get(area)
     }
 
+    /// What was printed.
     pub fn printed(&self) -> &[u8]
         ensures { result.now ≡ (⟦<MemStation as Station>⟧.view self.now).printed }
     {
@@ -141,6 +146,7 @@ fn admit_call(
     ensures ok { OnOk result (faults.new ≡ faults.old) }
     ensures err { OnErr result (RisesOnce faults.old faults.new × (faults.old ≤ faults.new)) }
 {
+    // Read first, so that its range is known.
     let _faults = *faults;
     *calls = calls.saturating_add(1);
     if *calls_left == 0 || fails.contains(calls) {
@@ -231,6 +237,7 @@ fn read_part(file: &[u8], at: u64, buf: &mut [u8]) -> usize
     n
 }
 
+/// How many pieces of 4,096 bytes that are.
 fn count_pieces(n: usize) -> u64
     requires { n < 2 ^ 63 }
     ensures { result ≡ pieces n }
@@ -240,7 +247,7 @@ fn count_pieces(n: usize) -> u64
 
 #[tactic(auto, unfolding(crate::specs::Outside::printed_of))]
 impl Station for MemStation {
-    ghost use Rattle.gaz_outside.specs.Memory.{plan_of, starved_calls};
+    ghost use Rattle.gaz_outside.specs.Memory.{plan_of, record_kept, starved_calls};
 
     ghost view = { λ m. view_of (reverse m.record_of_calls.items) m.faults m.reads m.writes };
 
@@ -260,6 +267,7 @@ impl Station for MemStation {
         ensures keeps { KeepsOutcomes (⟦<MemStation as Station>⟧.view self.old) (⟦<MemStation as Station>⟧.view self.new) }
         ensures due { IsTrue (is_due (plan_of self.old)) → IsErr result }
         ensures fails { IsErr result → IsTrue (is_due (plan_of self.old)) }
+        ensures kept { record_kept self.new ≡ record_kept self.old }
         ensures plan { plan_of self.new ≡ next_plan (plan_of self.old) }
         ensures fed { starved_calls self.new ≡ starved_calls self.old }
     {
@@ -284,6 +292,7 @@ impl Station for MemStation {
         ensures uncounted { OnErr result ((⟦<MemStation as Station>⟧.view self.new).reads ≡ (⟦<MemStation as Station>⟧.view self.old).reads) }
         ensures due { IsTrue (is_due (plan_of self.old)) → IsErr result }
         ensures fails { IsErr result → IsTrue (is_due (plan_of self.old)) }
+        ensures kept { record_kept self.new ≡ record_kept self.old }
         ensures plan { plan_of self.new ≡ next_plan (plan_of self.old) }
         ensures fed { starved_calls self.new ≡ starved_calls self.old }
     {
@@ -313,6 +322,8 @@ impl Station for MemStation {
         ensures fails { IsErr result → IsTrue (is_due (plan_of self.old)) ⊎ RisesOnce (starved_calls self.old) (starved_calls self.new) }
         ensures by_number { IsTrue (is_due (plan_of self.old)) → starved_calls self.new ≡ starved_calls self.old }
         ensures fed { OnOk result (starved_calls self.new ≡ starved_calls self.old) }
+        ensures kept { OnOk result (KeepsWrite area at bytes.now (record_kept self.old) (record_kept self.new)) }
+        ensures unkept { OnErr result (record_kept self.new ≡ record_kept self.old) }
         ensures plan { plan_of self.new ≡ next_plan (plan_of self.old) }
     {
         admit_call(
@@ -347,6 +358,8 @@ impl Station for MemStation {
         ensures fails { IsErr result → IsTrue (is_due (plan_of self.old)) ⊎ RisesOnce (starved_calls self.old) (starved_calls self.new) }
         ensures by_number { IsTrue (is_due (plan_of self.old)) → starved_calls self.new ≡ starved_calls self.old }
         ensures fed { OnOk result (starved_calls self.new ≡ starved_calls self.old) }
+        ensures kept { OnOk result (record_kept self.new ≡ Event.Synced area ∷ record_kept self.old) }
+        ensures unkept { OnErr result (record_kept self.new ≡ record_kept self.old) }
         ensures plan { plan_of self.new ≡ next_plan (plan_of self.old) }
     {
         admit_call(
@@ -374,6 +387,8 @@ impl Station for MemStation {
         ensures fails { IsErr result → IsTrue (is_due (plan_of self.old)) ⊎ RisesOnce (starved_calls self.old) (starved_calls self.new) }
         ensures by_number { IsTrue (is_due (plan_of self.old)) → starved_calls self.new ≡ starved_calls self.old }
         ensures fed { OnOk result (starved_calls self.new ≡ starved_calls self.old) }
+        ensures kept { OnOk result (KeepsPrint piece.now (record_kept self.old) (record_kept self.new)) }
+        ensures unkept { OnErr result (record_kept self.new ≡ record_kept self.old) }
         ensures plan { plan_of self.new ≡ next_plan (plan_of self.old) }
     {
         admit_call(

@@ -1,5 +1,5 @@
 //! Eight places for open files.
-ghost use Rattle.std.specs.Prelude.{◌≡◌, ◌≢◌, ℕ, ◌≤◌, ◌<◌, Some, None, IfSome, IsSome, IsNone, length};
+ghost use Rattle.std.specs.Prelude.{◌≡◌, ◌≢◌, ℕ, ◌<◌, Some, None, IfSome, IsSome, IsNone};
 
 use crate::short_name::ShortName;
 
@@ -10,6 +10,7 @@ pub(crate) struct NamedFile<F> {
     pub(crate) file: F,
 }
 
+/// Open files by their places.
 #[derive(Drop)]
 pub(crate) struct OpenFiles<F> {
     places: [Option<NamedFile<F>>; 8],

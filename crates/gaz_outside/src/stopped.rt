@@ -3,7 +3,6 @@ ghost use Rattle.std.specs.Prelude.{◌≡◌, ◌+◌, ◌^◌, ◌<◌, ◌≤
 ghost use Rattle.gaz_outside.specs.declared.station.Area.{Area};
 ghost use Rattle.gaz_outside.specs.declared.event.Event.{Event};
 ghost use Rattle.gaz_outside.specs.Events.{area_bytes};
-ghost use Rattle.gaz_outside.specs.Station.{area_place};
 ghost use Rattle.gaz_outside.specs.Stopped.{is_synced, end_of, count_unsynced, left_of_write, left_of_event, stopped};
 
 use crate::Area;

@@ -18,4 +18,4 @@ returns-in-Err-clause-printed g c =
 pub returns-in-Ok-clause-areas : goal.returns-in-Ok-clause-areas
 returns-in-Ok-clause-areas g c =
     areas_stay_on (g.T.Station.view c.args.station.now) (g.T.Station.view c.print_two.new.station) (g.T.Station.view c.print.new.self) c.in-Ok.ensures.told
-    c.in-Ok.ensures.areas (areas_stay_print _ _ _ c.print.ensures.appends)
+    c.in-Ok.ensures.areas (areas_stay_print _ _ _ c.print.ensures.counts c.print.ensures.appends)

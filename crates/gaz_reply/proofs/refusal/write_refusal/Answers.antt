@@ -30,7 +30,7 @@ pub returns-in-Memory-clause-printed : goal.returns-in-Memory-clause-printed
 returns-in-Memory-clause-printed g c = tells _ memory c.args.refusal.now _ _ c.print-in-Memory.result refl (ap refusal_of (sym c.in-Memory.is)) c.print-in-Memory.ensures.printed
 
 pub returns-in-NotLoaded-clause-areas : goal.returns-in-NotLoaded-clause-areas
-returns-in-NotLoaded-clause-areas g c = areas_stay_print _ _ _ c.print.ensures.appends
+returns-in-NotLoaded-clause-areas g c = areas_stay_print _ _ _ c.print.ensures.counts c.print.ensures.appends
 
 pub returns-in-Memory-clause-areas : goal.returns-in-Memory-clause-areas
-returns-in-Memory-clause-areas g c = areas_stay_print _ _ _ c.print-in-Memory.ensures.appends
+returns-in-Memory-clause-areas g c = areas_stay_print _ _ _ c.print-in-Memory.ensures.counts c.print-in-Memory.ensures.appends

@@ -11,7 +11,7 @@ returns-in-Err-clause-printed g c = front c.args.first.now c.args.second.now _ _
 pub returns-in-Ok-clause-areas : goal.returns-in-Ok-clause-areas
 returns-in-Ok-clause-areas g c =
     areas_stay_on (g.T.Station.view c.args.station.now) (g.T.Station.view c.print.new.self) (g.T.Station.view c.print-in-Ok.new.self) c.in-Ok.ensures.counts.told
-    (areas_stay_print c.args.first.now _ _ c.in-Ok.ensures.appends) (areas_stay_print c.args.second.now _ _ c.print-in-Ok.ensures.appends)
+    (areas_stay_print c.args.first.now _ _ c.in-Ok.ensures.counts c.in-Ok.ensures.appends) (areas_stay_print c.args.second.now _ _ c.print-in-Ok.ensures.counts c.print-in-Ok.ensures.appends)
 
 pub returns-in-Err-clause-areas : goal.returns-in-Err-clause-areas
-returns-in-Err-clause-areas g c = areas_stay_print c.args.first.now _ _ c.in-Err.ensures.appends
+returns-in-Err-clause-areas g c = areas_stay_print c.args.first.now _ _ c.in-Err.ensures.counts c.in-Err.ensures.appends

@@ -1,4 +1,4 @@
-use Rattle.std.proofs.Common.{◌≡◌, [], ◌∷◌, reverse, rules, subst, sym}
+use Rattle.std.proofs.Common.{◌≡◌, [], ◌∷◌, reverse, rules, subst, sym, ap}
 use Rattle.gaz_outside.specs.declared.station.Area.{Area}
 use Rattle.gaz_outside.specs.declared.event.Event.TheVariants.{Began}
 use Rattle.gaz_outside.specs.Events.{MayLeave, area_bytes, text_of}
@@ -15,3 +15,10 @@ returns-clause-outcome c =
     let kept : c.push.new.self.items ≡ Began begun c.in_ok-to_vec.field-0 ∷ [] = search rules in
     let leaves = begins_with_outcome events c.push.new.self.items begun c.in_ok-to_vec.field-0 kept (λ a. subst (MayLeave events a) (sym (left a)) (may_be_stopped c.args.keep c.args.fill events [] a)) text in
     record { areas = leaves.0; text = leaves.1 }
+
+pub returns-clause-kept : goal.returns-clause-kept
+returns-clause-kept c =
+    let begun = c.in_ok-copy.field-0 in
+    let text = c.in_ok-to_vec.field-0 in
+    let kept : c.push.new.self.items ≡ Began begun text ∷ [] = search rules in
+    (begun, text, ap reverse kept)
