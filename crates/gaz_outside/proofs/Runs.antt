@@ -1,7 +1,7 @@
 -- How a run of calls on a station goes on.
 use Rattle.std.proofs.Common.{Bool, IsTrue, ◌≡◌, ◌≢◌, ◌⊎◌, inl, inr, ⊎_elim, ℕ, List, refl, sym, ◌∙◌, subst, arith}
 use Rattle.gaz_outside.specs.declared.station.Area.{Area}
-use Rattle.gaz_outside.specs.Station.{StationView, Outcome, Leaves, Elapses, Stays, Writes, Torn, LeavesOnly, Near, Confined, AnyIn, AreaStays, AreasStay, LeavesAreas, Appends, Counts, TornInTwo}
+use Rattle.gaz_outside.specs.Station.{StationView, Outcome, Leaves, Elapses, Stays, Writes, Torn, LeavesOnly, Near, Confined, AnyIn, OnlyIn, AreaStays, AreasStay, LeavesAreas, Appends, Counts, TornInTwo}
 use Rattle.gaz_outside.specs.SameArea.{which}
 use Rattle.gaz_outside.proofs.TornWrites.{torn_none}
 
@@ -137,6 +137,21 @@ torn_on at n d e c first next = record {
   no_longer = omega (arith, first.no_longer, next.no_longer);
   same = λ i lt out. next.same i (omega (arith, lt, first.no_shorter)) out ∙ first.same i lt out;
 }
+
+one_same : (area : Area) (at n : ℕ) (a : Area) (d : List ℕ) → OnlyIn area (Torn at n) a d d
+one_same area at n a d = ((λ is. torn_none at n d), (λ other. refl))
+
+one_on : (area : Area) (at n : ℕ) (a : Area) (d e c : List ℕ) → OnlyIn area (Torn at n) a d e → OnlyIn area (Torn at n) a e c → OnlyIn area (Torn at n) a d c
+one_on area at n a d e c first next = ((λ is. torn_on at n d e c (first.0 is) (next.0 is)), (λ other. next.1 other ∙ first.1 other))
+
+-- one write, and calls behind it that change nothing
+pub one_write : (area : Area) (at n : ℕ) (old new : StationView) → ((c : Outcome) → old.left_since old.moment c → Leaves old c) → Writes area at n old new → Confined (OnlyIn area (Torn at n)) old new
+one_write area at n old new only writes =
+    let start = confined_start (OnlyIn area (Torn at n)) (one_same area at n) old only in
+    confined_write (OnlyIn area (Torn at n)) (one_same area at n) (one_on area at n) old old new area at n (λ a. which a area) (λ d c torn. ((λ is. torn), (λ other. absurd (other refl)))) start writes
+
+pub one_stays : (area : Area) (at n : ℕ) (old mid new : StationView) → Confined (OnlyIn area (Torn at n)) old mid → Stays mid new → Confined (OnlyIn area (Torn at n)) old new
+one_stays area at n old mid new so_far stays = confined_stays (OnlyIn area (Torn at n)) (one_same area at n) (one_on area at n) old mid new so_far stays
 
 two_same : (first : Area) (at n : ℕ) (second : Area) (from m : ℕ) (a : Area) (d : List ℕ) → TornInTwo first at n second from m a d d
 two_same first at n second from m a d = ((λ is. torn_none at n d), (λ is. torn_none from m d), (λ other apart. refl))

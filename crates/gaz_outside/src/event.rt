@@ -4,7 +4,7 @@ ghost use Rattle.std.specs.Prelude.{◌≡◌};
 use crate::Area;
 use crate::areas::Areas;
 
-/// What a call that succeeded did.
+/// A call that succeeded, or what a stop had left.
 #[derive(Drop)]
 pub(crate) enum Event {
     /// What a stop had left, before the first call.

@@ -2,7 +2,7 @@
 ghost use Rattle.std.specs.Prelude.{◌≡◌, ◌≢◌, ◌≤◌, ◌<◌, ◌+◌, ◌^◌, ◌++◌, ℕ, List, length, take, IsTrue, OnOk};
 ghost use Rattle.gaz_outside.specs.declared.station.Area.{Area};
 ghost use Rattle.gaz_outside.specs.Outside.{HasCause};
-ghost use Rattle.gaz_outside.specs.Station.{Outcome, Torn, TornInTwo, Confined, AreaStays, IsStable, overlaid};
+ghost use Rattle.gaz_outside.specs.Station.{Outcome, Torn, OnlyIn, TornInTwo, Confined, AreaStays, IsStable, overlaid};
 
 use crate::{Area, Failed, Station};
 
@@ -31,6 +31,8 @@ pub fn write_and_sync<T: Station>(
     ensures outlives { OnOk result (IsTrue (T.view station.old).is_told → (later : T) → AreaStays (T.view station.new) (T.view later) area
         → IsStable (T.view later) area × ((T.view later).bytes area ≡ overlaid ((T.view station.old).bytes area) at bytes.now)) }
     ensures others { IsTrue (T.view station.old).is_told → (a : Area) → a ≢ area → AreaStays (T.view station.old) (T.view station.new) a }
+    // Also where a call fails, and at each moment of both.
+    ensures confined { IsTrue (T.view station.old).is_told → Confined (OnlyIn area (Torn at (length bytes.now))) (T.view station.old) (T.view station.new) }
     ensures cause { HasCause (T.view station.old).faults (T.view station.new).faults result }
 {
     match station.write_at(area, at, bytes) {
@@ -50,6 +52,8 @@ pub fn write_unsynced<T: Station>(
     ensures written { OnOk result (IsTrue (T.view station.old).is_told → (T.view station.new).bytes area ≡ overlaid ((T.view station.old).bytes area) at bytes.now) }
     ensures torn { IsTrue (T.view station.old).is_told → (c : Outcome) → (T.view station.new).left_since (T.view station.new).moment c → (d : List ℕ) × (T.view station.old).may_leave area d × Torn at (length bytes.now) d (c.areas area) }
     ensures others { IsTrue (T.view station.old).is_told → (c : Outcome) → (T.view station.new).left_since (T.view station.new).moment c → (a : Area) → a ≢ area → (T.view station.old).may_leave a (c.areas a) }
+    // Also at each moment of the call.
+    ensures confined { IsTrue (T.view station.old).is_told → Confined (OnlyIn area (Torn at (length bytes.now))) (T.view station.old) (T.view station.new) }
     ensures cause { HasCause (T.view station.old).faults (T.view station.new).faults result }
 {
     station.write_at(area, at, bytes)
