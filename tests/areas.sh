@@ -34,6 +34,7 @@ check all_closed "$? $(cat mirror.mark)" '4 bare'
 if strace -o trace true 2> /dev/null; then
     strace -o trace -e trace=openat,fdatasync,fsync "$areas" synced < /dev/null > /dev/null
     check folder_is_synced "$(sed -n '/mirror.mark/,$p' trace | sed -n 's/^\(fdatasync\|fsync\)(.*= 0$/\1/p; s/^openat(.*"\.".*/folder/p' | tr '\n' ' ')" 'fdatasync folder fsync '
+    check standard_descriptors_are_held "$(grep -c 'openat(AT_FDCWD, "/",' trace)" 3
     # A call that fails is answered as a failure.
     for call in flock pwrite64 fdatasync fsync; do
         strace -o trace -e "inject=$call:error=EIO" "$areas" broken < /dev/null > /dev/null
