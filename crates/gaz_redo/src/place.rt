@@ -1,14 +1,16 @@
 //! The steps of a commit.
-ghost use Rattle.std.specs.Prelude.{◌≡◌, ◌+◌, ◌*◌, ◌<◌, ◌^◌, [], ◌∷◌, ◌++◌, replicate, ℕ, List, length, IsTrue, ◌↔◌, OnOk};
+ghost use Rattle.std.specs.Prelude.{◌≡◌, ◌+◌, ◌*◌, ◌<◌, ◌≤◌, ◌^◌, [], ◌∷◌, ◌++◌, replicate, ℕ, List, length, IsTrue, ◌↔◌, OnOk};
 ghost use Rattle.gaz_outside.specs.declared.station.Area.{Area};
 ghost use Rattle.gaz_outside.specs.declared.station.Area.TheVariants.{Mark, Log};
 ghost use Rattle.gaz_outside.specs.Outside.{HasCause};
-ghost use Rattle.gaz_outside.specs.Station.{Counts, Confined, AnyIn, IsStable, overlaid, area_place};
+ghost use Rattle.gaz_outside.specs.Station.{Counts, Confined, AnyIn, IsStable, overlaid, pieces, area_place};
+ghost use Rattle.gaz_redo.specs.Batch.{held, once_out, writes_with};
 ghost use Rattle.gaz_redo.specs.Slots.{slots_in, slot_of, laid_in, Scattered, Touches, StartsWith, IsHome, SameBytes};
 ghost use Rattle.gaz_redo.specs.Content.{spelled, spelled_slot, head_of};
 ghost use Rattle.std.specs.Int.{w64, to_be_bytes};
 
 use crate::Home;
+use crate::batch::Batch;
 use crate::image::Image;
 use gaz_outside::{Area, Failed, Station};
 use gaz_page::PAGE;
@@ -19,20 +21,23 @@ pub(crate) const HEAD: u64 = 16;
 /// How many bytes a slot has.
 pub(crate) const SLOT: u64 = 4112;
 
-/// Writes each image to its home.
+/// Writes each image to its home. Neighbours go out together.
 pub(crate) fn write_images<T: Station>(station: &mut T, images: &[Image]) -> Result<(), Failed>
     ensures placed { OnOk result (IsTrue (T.view station.old).is_told → (a : Area) → (T.view station.new).bytes a ≡ laid_in a (slots_in images.now) ((T.view station.old).bytes a)) }
     ensures confined { IsTrue (T.view station.old).is_told → Confined (λ a. Scattered a (slots_in images.now)) (T.view station.old) (T.view station.new) }
     ensures counts { Counts 0 (length images.now) (T.view station.old) (T.view station.new) }
     ensures cause { HasCause (T.view station.old).faults (T.view station.new).faults result }
 {
+    let mut batch = Batch::new(Area::Root);
     for image in images {
-        station.write_at(
+        batch.put(
+            station,
             image.home.area,
             PAGE as u64 * image.home.page as u64,
             &image.bytes,
         )?;
     }
+    batch.write_out(station)?;
     Ok(())
 }
 
@@ -48,7 +53,7 @@ pub(crate) fn set_gate<T: Station>(station: &mut T, byte: u8) -> Result<(), Fail
     station.sync(Area::Mark)
 }
 
-/// Writes the log's header and its slots.
+/// Writes the log's header and its slots, as many in a write as a batch holds.
 pub(crate) fn write_log<T: Station>(station: &mut T, images: &[Image]) -> Result<(), Failed>
     requires { length images.now < 2 ^ 40 }
     ensures logged { OnOk result (IsTrue (T.view station.old).is_told → StartsWith (spelled (slots_in images.now)) ((T.view station.new).bytes Log)) }
@@ -56,12 +61,14 @@ pub(crate) fn write_log<T: Station>(station: &mut T, images: &[Image]) -> Result
     ensures counts { Counts 0 (2 * length images.now + 1) (T.view station.old) (T.view station.new) }
     ensures cause { HasCause (T.view station.old).faults (T.view station.new).faults result }
 {
-    station.write_at(Area::Log, 0, &log_head(images.len() as u64))?;
+    let mut batch = Batch::new(Area::Log);
+    batch.put(station, Area::Log, 0, &log_head(images.len() as u64))?;
     let mut at = HEAD;
     for image in images {
-        write_slot(station, at, image)?;
+        put_slot(&mut batch, station, at, image)?;
         at += SLOT;
     }
+    batch.write_out(station)?;
     Ok(())
 }
 
@@ -100,17 +107,25 @@ fn slot_head(home: Home) -> [u8; 16]
     ]
 }
 
-/// Writes a slot.
-fn write_slot<T: Station>(station: &mut T, at: u64, image: &Image) -> Result<(), Failed>
-    requires { at < 2 ^ 60 }
-    ensures written { OnOk result (IsTrue (T.view station.old).is_told → (front : List ℕ) → length front ≡ at → StartsWith front ((T.view station.old).bytes Log)
-        → StartsWith (front ++ spelled_slot (slot_of image.now)) ((T.view station.new).bytes Log)) }
+/// Puts a slot into a batch of the log.
+fn put_slot<T: Station>(
+    batch: &mut Batch,
+    station: &mut T,
+    at: u64,
+    image: &Image,
+) -> Result<(), Failed>
+    requires far { at < 2 ^ 60 }
+    requires area { batch.old.area ≡ Log }
+    ensures area { OnOk result (batch.new.area ≡ Log) }
+    ensures logged { OnOk result (IsTrue (T.view station.old).is_told → (front : List ℕ) → length front ≡ at → StartsWith front (once_out batch.old (T.view station.old).bytes Log)
+        → StartsWith (front ++ spelled_slot (slot_of image.now)) (once_out batch.new (T.view station.new).bytes Log)) }
     ensures confined { IsTrue (T.view station.old).is_told → Confined (AnyIn Log) (T.view station.old) (T.view station.new) }
-    ensures counts { Counts 0 2 (T.view station.old) (T.view station.new) }
+    ensures counts { Counts 0 (pieces (length (held batch.old)) + 1) (T.view station.old) (T.view station.new) }
+    ensures writes { OnOk result (writes_with batch.new (T.view station.new) ≤ writes_with batch.old (T.view station.old) + 2) }
     ensures cause { HasCause (T.view station.old).faults (T.view station.new).faults result }
 {
-    station.write_at(Area::Log, at, &slot_head(image.home))?;
-    station.write_at(Area::Log, at + HEAD, &image.bytes)?;
+    batch.put(station, Area::Log, at, &slot_head(image.home))?;
+    batch.put(station, Area::Log, at + HEAD, &image.bytes)?;
     Ok(())
 }
 

@@ -9,6 +9,7 @@ ghost use Rattle.gaz_redo.specs.Slots.{laid_in, Scattered, IsHome, SameBytes, To
 ghost use Rattle.gaz_redo.specs.Content.{is_open, is_log, slots_of, slot_count, slot_at, area_of};
 ghost use Rattle.gaz_redo.specs.Recovered.{AllStable, StandsFor, Tells, Means, OnlyRise, SlotsToRedo, answer_of};
 
+use crate::batch::Batch;
 use crate::checking::{check_log, home_in};
 use crate::place::{HEAD, SLOT, set_gate};
 use crate::{Home, RedoFault};
@@ -51,7 +52,7 @@ fn redo_images<T: Station>(station: &mut T, count: u64) -> Result<(), Failed>
     sync_homes(station)
 }
 
-/// Writes the images of the log to their homes.
+/// Writes the images of the log to their homes. Neighbours go out together.
 fn write_slots<T: Station>(station: &mut T, count: u64) -> Result<(), Failed>
     requires few { count < 2 ^ 50 }
     requires in_form { IsTrue (T.view station.old).is_told → (is_log (T.view station.old).bytes ≡ true) × (count ≡ slot_count ((T.view station.old).bytes Log)) }
@@ -60,11 +61,13 @@ fn write_slots<T: Station>(station: &mut T, count: u64) -> Result<(), Failed>
     ensures counts { Counts (2 * count) count (T.view station.old) (T.view station.new) }
     ensures cause { HasCause (T.view station.old).faults (T.view station.new).faults result }
 {
+    let mut batch = Batch::new(Area::Root);
     let mut image = [0; PAGE];
     for k in 0..count {
         let home = read_slot(station, k, &mut image)?;
-        station.write_at(home.area, PAGE as u64 * home.page as u64, &image)?;
+        batch.put(station, home.area, PAGE as u64 * home.page as u64, &image)?;
     }
+    batch.write_out(station)?;
     Ok(())
 }
 
