@@ -7,7 +7,7 @@ top=$(cd "$(dirname "$0")/.." && pwd)
 times=${1:?times} pages=${2:?pages}
 commits=$top/crates/gaz_commits/out/gaz_commits
 [ -x "$commits" ] || { echo "not built: run 'rt run -- 1 1' in crates/gaz_commits" >&2; exit 1; }
-folder=$(mktemp -d -p "${BENCH_FOLDER:-.}")
+folder=$(cd "$(mktemp -d -p "${BENCH_FOLDER:-.}")" && pwd)
 trap 'rm -rf "$folder"' EXIT
 cd "$folder"
 

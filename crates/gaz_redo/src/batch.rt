@@ -53,6 +53,7 @@ impl Batch {
         ensures takes { OnOk result (TakesIn self.old self.new area at bytes.now) }
         ensures placed { OnOk result (IsTrue (T.view station.old).is_told → (a : Area) → once_out self.new (T.view station.new).bytes a ≡ laid_over area at bytes.now (once_out self.old (T.view station.old).bytes) a) }
         ensures confined { IsTrue (T.view station.old).is_told → Confined (InRangeOf self.old) (T.view station.old) (T.view station.new) }
+        ensures waits { GoesOn self.old area at (length bytes.now) → (T.view station.new).writes ≡ (T.view station.old).writes }
         ensures counts { Counts 0 (pieces (length (held self.old))) (T.view station.old) (T.view station.new) }
         ensures writes { OnOk result (writes_with self.new (T.view station.new) ≤ writes_with self.old (T.view station.old) + pieces (length bytes.now)) }
         ensures cause { HasCause (T.view station.old).faults (T.view station.new).faults result }
