@@ -74,7 +74,8 @@ fn read_head<T: Station>(station: &mut T, at: u64) -> Result<[u8; 16], Failed>
 }
 
 /// The home that a slot's head names.
-pub(crate) fn home_in(head: &[u8; 16]) -> Home
+pub(crate) fn home_in(head: &[u8]) -> Home
+    requires { 16 ≤ length head.now }
     ensures area { result.area ≡ area_of (slice_index head.now 0) }
     ensures page { result.page ≡ from_be_bytes w32 (take 4 (drop 4 head.now)) }
 {

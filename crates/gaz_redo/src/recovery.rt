@@ -9,10 +9,11 @@ ghost use Rattle.gaz_redo.specs.Slots.{laid_in, Scattered, IsHome, SameBytes, To
 ghost use Rattle.gaz_redo.specs.Content.{is_open, is_log, slots_of, slot_count, slot_at, area_of};
 ghost use Rattle.gaz_redo.specs.Recovered.{AllStable, StandsFor, Tells, Means, OnlyRise, SlotsToRedo, answer_of};
 
+use crate::RedoFault;
 use crate::batch::Batch;
-use crate::checking::{check_log, home_in};
-use crate::place::{HEAD, SLOT, set_gate};
-use crate::{Home, RedoFault};
+use crate::checking::check_log;
+use crate::group::Group;
+use crate::place::set_gate;
 use gaz_outside::{Area, Failed, Station};
 use gaz_page::PAGE;
 
@@ -62,29 +63,14 @@ fn write_slots<T: Station>(station: &mut T, count: u64) -> Result<(), Failed>
     ensures cause { HasCause (T.view station.old).faults (T.view station.new).faults result }
 {
     let mut batch = Batch::new(Area::Root);
-    let mut image = [0; PAGE];
+    let mut group = Group::new();
     for k in 0..count {
-        let home = read_slot(station, k, &mut image)?;
-        batch.put(station, home.area, PAGE as u64 * home.page as u64, &image)?;
+        group.hold(station, k, count)?;
+        let (home, image) = group.slot(k);
+        batch.put(station, home.area, PAGE as u64 * home.page as u64, image)?;
     }
     batch.write_out(station)?;
     Ok(())
-}
-
-/// Reads a slot of the log.
-fn read_slot<T: Station>(station: &mut T, k: u64, image: &mut [u8]) -> Result<Home, Failed>
-    requires few { k < 2 ^ 50 }
-    requires size { length image.old ≡ 4096 }
-    ensures slot { IfOk result (λ home. IsTrue (T.view station.old).is_told → 16 + 4112 * (k + 1) ≤ length ((T.view station.old).bytes Log)
-        → record { area = home.area; page = home.page; image = image.new } ≡ slot_at (drop (16 + 4112 * k) ((T.view station.old).bytes Log))) }
-    ensures stays { IsTrue (T.view station.old).is_told → Confined SameBytes (T.view station.old) (T.view station.new) }
-    ensures counts { Counts 2 0 (T.view station.old) (T.view station.new) }
-    ensures cause { HasCause (T.view station.old).faults (T.view station.new).faults result }
-{
-    let mut head = [0; 16];
-    station.read_at(Area::Log, HEAD + SLOT * k, &mut head)?;
-    station.read_at(Area::Log, HEAD + SLOT * k + HEAD, image)?;
-    Ok(home_in(&head))
 }
 
 /// Syncs the areas of images.

@@ -239,7 +239,7 @@ fn stops_in_two_recoveries_leave_all_images(rt: HostRuntime) -> Result<(), Fail>
     let mut station = empty_station(alloc, 5);
     assert_eq!(rt; commit(&mut station, &images), Err(RedoFault::Failed));
     let most = calls_to_recover(&station, 0, 0)?.expect(&rt, "a recovery ends");
-    assert_eq!(rt; most, 19);
+    assert_eq!(rt; most, 16);
     for calls in 0..=most {
         for (more, (keep, fill)) in (0..=most).zip(STOPS.into_iter().chain(STOPS).chain(STOPS)) {
             let mut first = station.after_stop(keep, fill)?;
@@ -272,16 +272,16 @@ fn each_call_that_fails_ends_the_commit(rt: HostRuntime) -> Result<(), Fail> {
     Ok(())
 }
 
-/// With two slots in the log: one call reads the gate, five look at the header and the ends of the areas, each slot is read
-/// by one for its form and two to be written, and by one it is written; then three areas and the gate.
+/// With two slots in the log one call reads the gate, five look at its header and the ends of the areas, two at the heads of the
+/// slots, one reads both slots, two write the pages, three sync their areas, and two close the gate: 16.
 #[test]
 fn each_call_that_fails_ends_the_recovery(rt: HostRuntime) -> Result<(), Fail> {
     let alloc = rt.alloc();
     let log = log_of(alloc, 2, &[(2, 0), (3, 0)])?;
-    for call in 1..=20 {
+    for call in 1..=17 {
         let mut station = failing_opened_station(alloc, &log, call)?;
         let answer = recover(&mut station);
-        assert_eq!(rt; answer.is_ok(), call > 19, "call {call}");
+        assert_eq!(rt; answer.is_ok(), call > 16, "call {call}");
         let mut after = station.after_stop(0, 255)?;
         assert!(rt; recover(&mut after).is_ok());
         assert_eq!(rt; after.area(Area::Root), [0xcc; 4096].as_slice());
