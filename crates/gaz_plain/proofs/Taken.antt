@@ -1,6 +1,6 @@
 -- What a line leads to, by what its check and its list say.
-use Rattle.std.proofs.Common.{◌≡◌, ℕ, ◌<◌, ◌≤◌, true, false, List, [], ◌∷◌, length, Some, None, Result, Ok, Err, IsSome, refl, ap, ◌∙◌, arith}
-use Rattle.std.specs.Prelude.{nat_lt, option_map}
+use Rattle.std.proofs.Common.{◌≡◌, ℕ, ◌<◌, ◌≤◌, true, false, List, [], ◌∷◌, length, Some, None, Result, Ok, Err, IsSome, refl, ap, ◌∙◌, sym, subst, arith}
+use Rattle.std.specs.Prelude.{nat_lt, option_map, IsOk}
 use Rattle.std.proofs.lemmas.Bool.Decides.{nat_tests}
 use Rattle.gaz_num.specs.declared.words.Kind.{Kind}
 use Rattle.gaz_num.specs.declared.words.Kind.TheVariants.{Row, RowDelete}
@@ -60,6 +60,9 @@ module _ (gaz : Gazetteer) (line : List ℕ) (id : ℕ) where
   pub row_put : IsLine Row line → IsIdOf id line → length put ≤ limit_of Rows → after_line gaz Row line ≡ Ok (with_rows gaz put)
   row_put is keyed within = accepted gaz Row line is.accepted ∙ ap (if_within Rows) (step_row keyed) ∙ fits (with_rows gaz put) within
 
+  pub row_fits : IsLine Row line → IsIdOf id line → length put ≤ limit_of Rows → IsOk (after_line gaz Row line)
+  row_fits is keyed within = subst IsOk (sym (row_put is keyed within)) refl
+
   pub row_full : IsLine Row line → IsIdOf id line → limit_of Rows < length put → after_line gaz Row line ≡ Err (full Rows)
   row_full is keyed past = accepted gaz Row line is.accepted ∙ ap (if_within Rows) (step_row keyed) ∙ overflows (with_rows gaz put) past
 
@@ -76,7 +79,7 @@ module _ (gaz : Gazetteer) (line : List ℕ) (id : ℕ) where
     pub left_is : length left ≤ limit_of Rows → IsGazetteer (with_rows gaz left)
     left_is within = (delete_kept gaz.date some gaz line of_date (Some (id ∷ [])) within).is_gazetteer
 
--- the cause of a refused row, where a full list says so
-pub put_fault : (taken : Result Gazetteer LineFault) (why : PutFault) → (why ≡ cause.Full → taken ≡ Err (full Rows)) → IsFaultOf taken (fault_of why)
-put_fault taken cause.Full holds = holds refl
-put_fault taken cause.Memory holds = tt
+-- the cause of a refused row, where a full list says so, and where there is room for it
+pub put_fault : (taken : Result Gazetteer LineFault) (why : PutFault) → (why ≡ cause.Full → taken ≡ Err (full Rows)) → (why ≡ cause.Memory → IsOk taken) → IsFaultOf taken (fault_of why)
+put_fault taken cause.Full is_full has_room = is_full refl
+put_fault taken cause.Memory is_full has_room = has_room refl

@@ -102,6 +102,8 @@ impl RowList {
         ensures within { length self.new ≤ limit_of Rows }
         ensures full { result ≡ Err PutFault.Full →
             limit_of Rows < length (with_row id row.now self.old) }
+        ensures memory { result ≡ Err PutFault.Memory →
+            length (with_row id row.now self.old) ≤ limit_of Rows }
         ensures err { OnErr result (self.new ≡ self.old) }
     {
         match self.place_of(id) {
@@ -117,6 +119,7 @@ impl RowList {
         requires keyed { IsIdOf id row.now }
         requires at { IsPlaceOf id self.old place }
         ensures ok { OnOk result (self.new ≡ with_row id row.now self.old) }
+        ensures fits { length (with_row id row.now self.old) ≤ limit_of Rows }
         ensures within { length self.new ≤ limit_of Rows }
         ensures err { OnErr result (self.new ≡ self.old) }
     {
@@ -132,6 +135,7 @@ impl RowList {
         requires gap { IsGapFor id self.old place }
         requires room { length self.old < limit_of Rows }
         ensures ok { OnOk result (self.new ≡ with_row id row.now self.old) }
+        ensures fits { length (with_row id row.now self.old) ≤ limit_of Rows }
         ensures within { length self.new ≤ limit_of Rows }
         ensures err { OnErr result (self.new ≡ self.old) }
     {
