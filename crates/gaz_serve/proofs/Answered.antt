@@ -71,6 +71,7 @@ run_starved files bytes bytes_now faults printed status fits five = record {
   ended = λ is. absurd (omega (arith, five, is));
   past = λ is. absurd (omega (arith, five, is));
   heard = λ is. absurd (omega (arith, five, is));
+  heard_before = λ is. absurd (omega (arith, five, is));
   starved = λ is. refl;
 }
 

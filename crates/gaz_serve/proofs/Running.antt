@@ -1,5 +1,5 @@
 -- Turns, one behind the other, and the run that they make.
-use Rattle.std.proofs.Common.{◌≡◌, ◌≢◌, ℕ, ◌+◌, ◌^◌, ◌<◌, Bool, true, false, cond, List, [], ◌∷◌, ◌++◌, length, refl, ap, arith, Option, Some, None, append_assoc, length-append, ◌∙◌, sym, subst}
+use Rattle.std.proofs.Common.{◌≡◌, ◌≢◌, ℕ, ◌+◌, ◌-◌, ◌^◌, ◌<◌, Bool, true, false, cond, List, [], ◌∷◌, ◌++◌, length, refl, ap, arith, Option, Some, None, append_assoc, length-append, ◌∙◌, sym, subst}
 use Rattle.std.specs.Prelude.{option_map, codes, nat_lt, IfSome, Result, Ok, Err}
 use Rattle.std.specs.List.{AllByRecursion}
 use Rattle.std.specs.Io.KnownBytes.{append_known}
@@ -75,6 +75,9 @@ rises_more n before mid now plain old new rises is_old is_new blamed = let same 
 rises_more n before mid now memory old new rises is_old is_new blamed = let same = blamed.faults in omega (arith, rises, is_old, is_new, same)
 rises_more n before mid now (shelf file) old new rises is_old is_new blamed = let once = blamed.faults in omega (arith, rises, is_old, is_new, once)
 
+one_less : (turns : List Turn) (turn : Turn) (answered : ℕ) → length turns ≡ answered → answered ≡ length (turns ++ turn ∷ []) - 1
+one_less turns turn answered count = let more = length-append turns (turn ∷ []) in omega (arith, more, count)
+
 -- the lines that were asked and those that weren't, where they are told
 lines_given : (bytes : Option (List ℕ)) (lines : List (List ℕ)) (now : Option Rest) (past : Bool) → AllByRecursion IsLine lines → IfSome bytes (λ text. Told 4096 lines now text) → (given : Given bytes) × (unanswered : List (List ℕ)) × (given.lines ≡ lines ++ unanswered)
 lines_given None lines now past are told = (record { lines = lines; is_past = past; are_lines = are; are_told = tt }, [], sym (append-nil lines))
@@ -113,11 +116,12 @@ module _ (files : Files) (bytes : Option (List ℕ)) (faults faults_now : ℕ) (
         ended = λ is. (refl, all.2 ∙ ends is);
         past = λ is. (refl, all.2 ∙ passes is);
         heard = λ is. absurd (not_failed is);
+        heard_before = λ is. absurd (not_cut is);
         starved = λ is. absurd (not_starved is);
       }
 
   -- the source failed
-  pub run_fails : (status : ℕ) (bytes_now : Option (List ℕ)) → status ≡ 4 → IsHeard bytes bytes_now answered → RunAnswers files bytes bytes_now faults faults_now printed printed_now status
+  pub run_fails : (status : ℕ) (bytes_now : Option (List ℕ)) → status ≡ 4 → IsHeard 0 bytes bytes_now answered → RunAnswers files bytes bytes_now faults faults_now printed printed_now status
   run_fails status bytes_now four heard =
       let some = lines_given bytes (asked way.turns) now false way.are_lines way.told in
       record {
@@ -133,7 +137,8 @@ module _ (files : Files) (bytes : Option (List ℕ)) (faults faults_now : ℕ) (
         cut = λ is. absurd (omega (arith, four, is));
         ended = λ is. absurd (omega (arith, four, is));
         past = λ is. absurd (omega (arith, four, is));
-        heard = λ is. (heard.0, heard.1, (let all = heard.2 in let count = way.count in omega (arith, all, count)));
+        heard = λ is. subst (IsHeard 0 bytes bytes_now) (sym way.count) heard;
+        heard_before = λ is. absurd (omega (arith, four, is));
         starved = λ is. absurd (omega (arith, four, is));
       }
 
@@ -160,8 +165,8 @@ module _ (files : Files) (bytes : Option (List ℕ)) (faults faults_now : ℕ) (
         }
 
     -- the reply of one more line is cut
-    pub run_cut : (status : ℕ) (bytes_now : Option (List ℕ)) → status ≡ 3 → (failed : E) → OneStep {A = Unit {0}} {E = E} files line state state_now before after station station_now (Err failed) → RunAnswers files bytes bytes_now faults after.faults printed (printed_of station_now) status
-    run_cut status bytes_now three failed first_step =
+    pub run_cut : (status : ℕ) (bytes_now : Option (List ℕ)) → status ≡ 3 → IsHeard 65536 bytes bytes_now answered → (failed : E) → OneStep {A = Unit {0}} {E = E} files line state state_now before after station station_now (Err failed) → RunAnswers files bytes bytes_now faults after.faults printed (printed_of station_now) status
+    run_cut status bytes_now three heard failed first_step =
         let step = subst (λ s. OneStep {A = Unit {0}} {E = E} files line s state_now before after station station_now (Err failed)) way.state_is first_step in
         let turn : Turn = record { line = line; verdict = step.verdict } in
         let next = state_after at_first files way.turns in
@@ -190,6 +195,7 @@ module _ (files : Files) (bytes : Option (List ℕ)) (faults faults_now : ℕ) (
           ended = λ is. absurd (omega (arith, three, is));
           past = λ is. absurd (omega (arith, three, is));
           heard = λ is. absurd (omega (arith, three, is));
+          heard_before = λ is. subst (IsHeard 65536 bytes bytes_now) (one_less way.turns turn answered way.count) heard;
           starved = λ is. absurd (omega (arith, three, is));
         }
 

@@ -1,7 +1,6 @@
 -- What was taken of a source, line by line.
-use Rattle.std.proofs.Common.{◌≡◌, ℕ, ◌+◌, ◌≤◌, ◌^◌, List, [], ◌∷◌, ◌++◌, length, refl, ap, arith, Option, append_assoc, ◌∙◌, sym, subst, length-append, ◌⊎◌, inl, inr}
+use Rattle.std.proofs.Common.{◌≡◌, ℕ, ◌+◌, ◌^◌, List, [], ◌∷◌, ◌++◌, length, ap, arith, Option, append_assoc, ◌∙◌, sym, subst, length-append, ◌⊎◌, inl, inr}
 use Rattle.std.specs.Io.KnownBytes.{prepend_known}
-use Rattle.std.proofs.lemmas.List.{append-nil}
 use Rattle.gaz_lines.specs.Cutter.{Cuts, Waited, IsFresh, pending, line_of, allowed_of, file_limit_of}
 use Rattle.gaz_lines.specs.declared.cutter.LineCutter.{LineCutter}
 use Rattle.gaz_lines.proofs.Rests.{prepend_none, prepend_two}
@@ -44,14 +43,6 @@ taken_waited limit room start pending left new s w = record {
       ∙ ap (λ xs. prepend_known xs new) (sym (append_assoc s.given w.part w.chunk));
 }
 
-module _ {S : Type 0} (left : S → Option (List ℕ)) (first now next : S) (limit : ℕ) (start : List ℕ) (pending : Option (List ℕ)) (at_end : Type 0) (rests : at_end → next ≡ now) (before : Spent limit pending (left first) ⊎ at_end) where
-  pub taken_next : (next ≡ now) ⊎ Waited limit 65536 start pending (left next) → Taken 65536 (left first) (left now) → Taken 65536 (left first) (left next)
-  taken_next (inl same) t = subst (λ s. Taken 65536 (left first) (left s)) (sym same) t
-  taken_next (inr w) t = elim before [
-    | inl s ↦ taken_waited limit 65536 start pending (left first) (left next) s w
-    | inr ended ↦ subst (λ s. Taken 65536 (left first) (left s)) (sym (rests ended)) t
-  ]
-
 -- So many lines were given, and what they spent of the source.
 pub record Counted (n limit : ℕ) (pending left : Option (List ℕ)) : Type 0 where
   pub spent : Spent limit pending left
@@ -73,20 +64,29 @@ counted_line at_end n m limit now text pending new left next cuts k = elim cuts.
   | inr last ↦ inr last.4
 ]
 
--- what is spent, or the end was seen
-pub spent_of : (n limit : ℕ) (pending left : Option (List ℕ)) (at_end : Type 0) → Counted n limit pending left ⊎ at_end → Spent limit pending left ⊎ at_end
-spent_of n limit pending left at_end (inl k) = inl k.spent
-spent_of n limit pending left at_end (inr ended) = inr ended
+pub answered_nothing : (room n : ℕ) (left : Option (List ℕ)) → IsHeard room left left n
+answered_nothing room n left = record { taken = taken_nothing room left; enough = omega arith }
 
-no_chunk : (chunk : List ℕ) → length chunk ≤ 0 → chunk ≡ []
-no_chunk [] none = refl
-no_chunk (b ∷ chunk) none = absurd (omega (arith, none))
+-- after one more line
+pub answered_more : (room n m : ℕ) (old new : Option (List ℕ)) → m ≡ n + 1 → IsHeard room old new n → IsHeard room old new m
+answered_more room n m old new next h = record { taken = h.taken; enough = let before = h.enough in omega (arith, before, next) }
+
+answered_waited : (n limit room : ℕ) (start : List ℕ) (pending left new : Option (List ℕ)) → Counted n limit pending left → Waited limit room start pending new → IsHeard room left new n
+answered_waited n limit room start pending left new k w = record {
+  taken = taken_waited limit room start pending left new k.spent w;
+  enough = let before = k.goes_on w.part in let none = ap (λ ps. length (all_but_last ps)) (pieces_last w.part w.is_line) in omega (arith, before, none);
+}
 
 -- The source failed where it was asked, so no line that was taken is left.
-pub heard_all : (n limit : ℕ) (start : List ℕ) (pending left new : Option (List ℕ)) (at_end : Type 0) → (at_end → ⊥) → Counted n limit pending left ⊎ at_end → Waited limit 0 start pending new → IsHeard left new n
-heard_all n limit start pending left new at_end goes_on (inr ended) w = absurd (goes_on ended)
-heard_all n limit start pending left new at_end goes_on (inl k) w = (
-  k.spent.given ++ w.part,
-  k.spent.before ∙ ap (prepend_known k.spent.given) (w.given ∙ ap (λ chunk. prepend_known (w.part ++ chunk) new) (no_chunk w.chunk w.fits) ∙ ap (λ xs. prepend_known xs new) (append-nil w.part)) ∙ sym (prepend_two k.spent.given w.part new),
-  (let before = k.goes_on w.part in let none = ap (λ ps. length (all_but_last ps)) (pieces_last w.part w.is_line) in omega (arith, before, none)),
-)
+pub answered_all : (n limit : ℕ) (start : List ℕ) (pending left new : Option (List ℕ)) (at_end : Type 0) → (at_end → ⊥) → Counted n limit pending left ⊎ at_end → Waited limit 0 start pending new → IsHeard 0 left new n
+answered_all n limit start pending left new at_end goes_on (inr ended) w = absurd (goes_on ended)
+answered_all n limit start pending left new at_end goes_on (inl k) w = answered_waited n limit 0 start pending left new k w
+
+module _ {S : Type 0} (left : S → Option (List ℕ)) (first now next : S) (n limit : ℕ) (start : List ℕ) (pending : Option (List ℕ)) (at_end : Type 0) (rests : at_end → next ≡ now) (before : Counted n limit pending (left first) ⊎ at_end) where
+  -- the source wasn't asked, or only where all whole lines before were answered
+  pub answered_next : (next ≡ now) ⊎ Waited limit 65536 start pending (left next) → IsHeard 65536 (left first) (left now) n → IsHeard 65536 (left first) (left next) n
+  answered_next (inl same) h = subst (λ s. IsHeard 65536 (left first) (left s) n) (sym same) h
+  answered_next (inr w) h = elim before [
+    | inl k ↦ answered_waited n limit 65536 start pending (left first) (left next) k w
+    | inr ended ↦ subst (λ s. IsHeard 65536 (left first) (left s) n) (sym (rests ended)) h
+  ]

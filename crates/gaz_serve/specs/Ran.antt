@@ -1,6 +1,6 @@
 -- How a run of requests may end.
 use Rattle.std.specs.Prelude.{◌≡◌, ◌≢◌, ◌≤◌, ℕ, length, ◌+◌, ◌-◌, ◌^◌, ◌⊎◌, min, Bool, true, false, List, [], ◌∷◌, ◌++◌, map, count_by, Option, IfSome}
-use Rattle.std.specs.Io.KnownBytes.{append_known, prepend_known}
+use Rattle.std.specs.Io.KnownBytes.{append_known}
 use Rattle.gaz_outside.specs.Outside.{SourceView, ShelfView, StationView, SameFiles, HasRisen, RisesOnce, SameNumbers, IsPrefix, left_of, files_of, printed_of}
 use Rattle.gaz_outside.specs.Station.{AreasStay}
 use Rattle.gaz_plain.specs.Load.{Files}
@@ -39,9 +39,10 @@ pub record IsCut (files : Files) (turns : List Turn) (text : List ℕ) : Type 0 
   pub begun : IsPrefix (replies at_first files earlier) text
   pub front : IsPrefix text (replies at_first files turns)
 
--- So many lines were answered, and no more lines that an LF ends were taken.
-abbrev pub IsHeard : Option (List ℕ) → Option (List ℕ) → ℕ → Type 0
-IsHeard old new answered = (taken : List ℕ) × (old ≡ prepend_known taken new) × (length (ended_lines taken) ≤ answered)
+-- So many lines were answered, and when the source was asked the last time, no more lines that an LF ends had been taken.
+pub record IsHeard (room : ℕ) (old new : Option (List ℕ)) (answered : ℕ) : Type 0 where
+  pub taken : Taken room old new
+  pub enough : length (ended_lines taken.front) ≤ answered
 
 -- Turns from the empty gazetteer on, each met as it may be, answer the first of the lines that the source gives,
 -- and their replies were printed.
@@ -61,8 +62,10 @@ pub record RunAnswers (files : Files) (bytes bytes_now : Option (List ℕ)) (she
   -- With 0 and 7 all lines were answered, with 7 where the source goes on past the limit.
   pub ended : status ≡ 0 → (unanswered ≡ []) × (given.is_past ≡ false)
   pub past : status ≡ 7 → (unanswered ≡ []) × (given.is_past ≡ true)
-  -- With 4 each whole line that was taken was answered before the source was asked for more.
-  pub heard : status ≡ 4 → IsHeard bytes bytes_now (length turns)
+  -- Each whole line that had been taken was answered before the source was asked the last time: with 4 it then failed, and
+  -- with 3 it then gave a piece of at most 65,536 bytes.
+  pub heard : status ≡ 4 → IsHeard 0 bytes bytes_now (length turns)
+  pub heard_before : status ≡ 3 → IsHeard 65536 bytes bytes_now (length turns - 1)
   pub starved : status ≡ 5 → turns ≡ []
 
 -- So the run answered, and where nothing failed, no memory was wanting and the source is within the limit, each of its lines

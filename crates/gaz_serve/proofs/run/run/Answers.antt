@@ -8,7 +8,7 @@ use Rattle.gaz_serve.specs.declared.session.EndFault.{EndFault}
 use Rattle.gaz_serve.specs.Step.{OneStep}
 use Rattle.gaz_serve.proofs.Changing.{weaker, both_known, told_before, always, closes_on}
 use Rattle.gaz_serve.proofs.Running.{UnderWay, way_first, run_ends, run_fails, run_cut, next_way, long_step, long_told, line_told}
-use Rattle.gaz_serve.proofs.Taken.{counted_start, counted_line, spent_of, heard_all, taken_nothing, taken_next}
+use Rattle.gaz_serve.proofs.Taken.{counted_start, counted_line, answered_nothing, answered_more, answered_all, answered_next}
 use Rattle.gaz_serve.proofs.run.run.Goals as goal
 
 pub loop-line-init : goal.loop-line-init
@@ -19,7 +19,7 @@ loop-line-init g c = record {
   reads = inl c.requires.fresh.reads;
   ended = λ is. absurd (false≢true (sym c.requires.fresh.ended ∙ is));
   counted = inl (counted_start c.args.cutter.now _ c.requires.fresh c.requires.file_limit);
-  taken = taken_nothing 65536 _;
+  heard = answered_nothing 65536 _ _;
   same = record { told = refl; files = refl };
   numbers = inl (λ n. refl);
   source = refl;
@@ -42,16 +42,18 @@ pub returns-in-Err-Failed-clause-answers : goal.returns-in-Err-Failed-clause-ans
 returns-in-Err-Failed-clause-answers g c =
     let i = c.loop-line.invariant in
     let e = c.next_source.ensures in
-    let heard = heard_all _ _ _ _ _ _ _ (λ ended. rw c.in-Err-Failed.field-0-is at (c.in-Err-Failed.ensures.rests ended).1) i.counted (rw c.in-Err-Failed.field-0-is at c.in-Err-Failed.ensures.waits_in_vain) in
+    let heard = answered_all _ _ _ _ _ _ _ (λ ended. rw c.in-Err-Failed.field-0-is at (c.in-Err-Failed.ensures.rests ended).1) i.counted (rw c.in-Err-Failed.field-0-is at c.in-Err-Failed.ensures.waits_in_vain) in
     weaker _ (λ files way. run_fails files _ _ _ _ _ _ _ _ way 4 _ refl heard) i.way
 
 pub returns-in-Err-Station-clause-answers : goal.returns-in-Err-Station-clause-answers
 returns-in-Err-Station-clause-answers g c =
     let i = c.loop-line.invariant in
+    let e = c.next_source.ensures in
     let gave = rw (c.in-Ok-Some.is, c.in-Ok-Some.field-0-is) at c.next_source.follows.holds-at-none.gave in
+    let heard = answered_next (λ s. left_of (g.S.Source.view s)) _ _ _ _ _ _ _ _ (λ is. (e.rests is).0) i.counted e.waits i.heard in
     both_known {B = λ files. OneStep files c.in-Ok-Some.line.now c.loop-line.session c.answer.new.session (g.F.Shelf.view c.loop-line.shelf) (g.F.Shelf.view c.answer.new.shelf) (g.T.Station.view c.loop-line.station) (g.T.Station.view c.answer.new.station) c.answer.result} _ i.way
     (told_before (λ files. OneStep files c.in-Ok-Some.line.now c.loop-line.session c.answer.new.session (g.F.Shelf.view c.loop-line.shelf) (g.F.Shelf.view c.answer.new.shelf) (g.T.Station.view c.loop-line.station) (g.T.Station.view c.answer.new.station) c.answer.result) (g.F.Shelf.view c.args.shelf.now) (g.F.Shelf.view c.loop-line.shelf) i.same.files c.answer.ensures.step)
-    (λ files way step. run_cut files _ _ _ _ _ _ _ _ way c.in-Ok-Some.line.now gave.line.cuts.is_line _ (line_told _ _ c.in-Ok-Some.line.now _ _ gave.gives way.told) _ _ _ _ _ refl refl 3 _ refl c.in-Err-Station.field-0 (rw c.in-Err-Station.is at step))
+    (λ files way step. run_cut files _ _ _ _ _ _ _ _ way c.in-Ok-Some.line.now gave.line.cuts.is_line _ (line_told _ _ c.in-Ok-Some.line.now _ _ gave.gives way.told) _ _ _ _ _ refl refl 3 _ refl heard c.in-Err-Station.field-0 (rw c.in-Err-Station.is at step))
 
 pub loop-line-preserved-in_default : goal.loop-line-preserved-in_default
 loop-line-preserved-in_default g c =
@@ -69,7 +71,7 @@ loop-line-preserved-in_default g c =
         | inl k ↦ counted_line _ _ _ _ _ c.in-Ok-Some.line.now _ _ _ gave.numbers gave.line.cuts k
         | inr ended ↦ inr (gave.still_ended ended)
       ];
-      taken = taken_next (λ s. left_of (g.S.Source.view s)) _ _ _ _ _ _ _ (λ is. (e.rests is).0) (spent_of _ _ _ _ _ i.counted) e.waits i.taken;
+      heard = answered_more _ _ _ _ _ gave.numbers (answered_next (λ s. left_of (g.S.Source.view s)) _ _ _ _ _ _ _ _ (λ is. (e.rests is).0) i.counted e.waits i.heard);
       numbers = closes_on _ (g.F.Shelf.view c.args.shelf.now) (g.F.Shelf.view c.loop-line.shelf) (g.F.Shelf.view c.answer.new.shelf) i.numbers c.answer.ensures.closes;
       same = record { told = c.answer.ensures.same.told ∙ i.same.told; files = c.answer.ensures.same.files ∙ i.same.files };
       source = c.in-Ok-Some.ensures.cause ∙ i.source;
@@ -83,9 +85,11 @@ returns-in-Err-Station-refuse_long-clause-answers g c =
     let i = c.loop-line.invariant in
     let gave = rw (c.in-Err-TooLong.is, c.in-Err-TooLong.field-0-is) at c.next_source.follows.holds-at-none.gave in
     let long = subst (λ n. n < length gave.refuses.line) i.line_limit gave.refuses.too_long in
+    let e = c.next_source.ensures in
+    let heard = answered_next (λ s. left_of (g.S.Source.view s)) _ _ _ _ _ _ _ _ (λ is. (e.rests is).0) i.counted e.waits i.heard in
     weaker _ (λ files way.
     let line = long_told _ _ gave.refuses.line _ _ long gave.refuses.cuts.is_line gave.gives way.told in
-    run_cut files _ _ _ _ _ _ _ _ way line.0 line.2 _ line.3 _ (g.F.Shelf.view c.loop-line.shelf) (g.F.Shelf.view c.loop-line.shelf) _ _ refl refl 3 _ refl c.in-Err-Station-refuse_long.field-0
+    run_cut files _ _ _ _ _ _ _ _ way line.0 line.2 _ line.3 _ (g.F.Shelf.view c.loop-line.shelf) (g.F.Shelf.view c.loop-line.shelf) _ _ refl refl 3 _ refl heard c.in-Err-Station-refuse_long.field-0
     (long_step files line.0 _ (g.F.Shelf.view c.loop-line.shelf) _ _ _ line.1 (rw c.in-Err-Station-refuse_long.is at c.refuse_long.ensures.printed))) i.way
 
 pub loop-line-preserved : goal.loop-line-preserved
@@ -106,7 +110,7 @@ loop-line-preserved g c =
         | inl k ↦ counted_line _ _ _ _ _ gave.refuses.line _ _ _ gave.numbers.0 gave.refuses.cuts k
         | inr ended ↦ inr (gave.still_ended ended)
       ];
-      taken = taken_next (λ s. left_of (g.S.Source.view s)) _ _ _ _ _ _ _ (λ is. (e.rests is).0) (spent_of _ _ _ _ _ i.counted) e.waits i.taken;
+      heard = answered_more _ _ _ _ _ gave.numbers.0 (answered_next (λ s. left_of (g.S.Source.view s)) _ _ _ _ _ _ _ _ (λ is. (e.rests is).0) i.counted e.waits i.heard);
       same = i.same;
       numbers = i.numbers;
       source = (rw c.in-Err-TooLong.field-0-is at c.in-Err-TooLong.ensures.cause) ∙ i.source;
@@ -129,31 +133,31 @@ pub returns-in-Ok-None-clause-taken : goal.returns-in-Ok-None-clause-taken
 returns-in-Ok-None-clause-taken g c =
     let i = c.loop-line.invariant in
     let e = c.next_source.ensures in
-    taken_next (λ s. left_of (g.S.Source.view s)) _ _ _ _ _ _ _ (λ is. (e.rests is).0) (spent_of _ _ _ _ _ i.counted) e.waits i.taken
+    (answered_next (λ s. left_of (g.S.Source.view s)) _ _ _ _ _ _ _ _ (λ is. (e.rests is).0) i.counted e.waits i.heard).taken
 
 pub returns-in-Err-FileTooLong-clause-taken : goal.returns-in-Err-FileTooLong-clause-taken
 returns-in-Err-FileTooLong-clause-taken g c =
     let i = c.loop-line.invariant in
     let e = c.next_source.ensures in
-    taken_next (λ s. left_of (g.S.Source.view s)) _ _ _ _ _ _ _ (λ is. (e.rests is).0) (spent_of _ _ _ _ _ i.counted) e.waits i.taken
+    (answered_next (λ s. left_of (g.S.Source.view s)) _ _ _ _ _ _ _ _ (λ is. (e.rests is).0) i.counted e.waits i.heard).taken
 
 pub returns-in-Err-Failed-clause-taken : goal.returns-in-Err-Failed-clause-taken
 returns-in-Err-Failed-clause-taken g c =
     let i = c.loop-line.invariant in
     let e = c.next_source.ensures in
-    taken_next (λ s. left_of (g.S.Source.view s)) _ _ _ _ _ _ _ (λ is. (e.rests is).0) (spent_of _ _ _ _ _ i.counted) e.waits i.taken
+    (answered_next (λ s. left_of (g.S.Source.view s)) _ _ _ _ _ _ _ _ (λ is. (e.rests is).0) i.counted e.waits i.heard).taken
 
 pub returns-in-Err-Station-clause-taken : goal.returns-in-Err-Station-clause-taken
 returns-in-Err-Station-clause-taken g c =
     let i = c.loop-line.invariant in
     let e = c.next_source.ensures in
-    taken_next (λ s. left_of (g.S.Source.view s)) _ _ _ _ _ _ _ (λ is. (e.rests is).0) (spent_of _ _ _ _ _ i.counted) e.waits i.taken
+    (answered_next (λ s. left_of (g.S.Source.view s)) _ _ _ _ _ _ _ _ (λ is. (e.rests is).0) i.counted e.waits i.heard).taken
 
 pub returns-in-Err-Station-refuse_long-clause-taken : goal.returns-in-Err-Station-refuse_long-clause-taken
 returns-in-Err-Station-refuse_long-clause-taken g c =
     let i = c.loop-line.invariant in
     let e = c.next_source.ensures in
-    taken_next (λ s. left_of (g.S.Source.view s)) _ _ _ _ _ _ _ (λ is. (e.rests is).0) (spent_of _ _ _ _ _ i.counted) e.waits i.taken
+    (answered_next (λ s. left_of (g.S.Source.view s)) _ _ _ _ _ _ _ _ (λ is. (e.rests is).0) i.counted e.waits i.heard).taken
 
 pub returns-in-Err-Station-clause-numbers : goal.returns-in-Err-Station-clause-numbers
 returns-in-Err-Station-clause-numbers g c = closes_on _ (g.F.Shelf.view c.args.shelf.now) (g.F.Shelf.view c.loop-line.shelf) (g.F.Shelf.view c.answer.new.shelf) c.loop-line.invariant.numbers c.answer.ensures.closes

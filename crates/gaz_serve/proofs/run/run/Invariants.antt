@@ -4,7 +4,7 @@ use Rattle.gaz_outside.specs.Outside.{SameFiles, SameNumbers, left_of, files_of,
 use Rattle.gaz_outside.specs.Station.{AreasStay}
 use Rattle.gaz_lines.specs.Cutter.{rest, pending, line_of, HasEnded, MayReadSource, line_limit_of, allowed_of}
 use Rattle.gaz_serve.specs.Change.{NoneOpen}
-use Rattle.gaz_serve.specs.Serve.{Taken}
+use Rattle.gaz_serve.specs.Ran.{IsHeard}
 use Rattle.gaz_serve.proofs.Running.{UnderWay}
 use Rattle.gaz_serve.proofs.Taken.{Counted}
 use Rattle.gaz_serve.proofs.run.run.Given as goal
@@ -17,7 +17,7 @@ invariant-loop-line g l = record {
   reads : MayReadSource l.cutter;
   ended : HasEnded l.cutter → IfSome (left_of (g.S.Source.view l.source)) (λ bytes. bytes ≡ []);
   counted : Counted (line_of l.cutter) (allowed_of l.cutter) (pending l.cutter (left_of (g.S.Source.view l.source))) (left_of (g.S.Source.view l.fn.source)) ⊎ HasEnded l.cutter;
-  taken : Taken 65536 (left_of (g.S.Source.view l.fn.source)) (left_of (g.S.Source.view l.source));
+  heard : IsHeard 65536 (left_of (g.S.Source.view l.fn.source)) (left_of (g.S.Source.view l.source)) (line_of l.cutter);
   same : SameFiles (g.F.Shelf.view l.fn.shelf) (g.F.Shelf.view l.shelf);
   numbers : SameNumbers (g.F.Shelf.view l.fn.shelf) (g.F.Shelf.view l.shelf) ⊎ NoneOpen (g.F.Shelf.view l.shelf);
   source : (g.S.Source.view l.source).faults ≡ (g.S.Source.view l.fn.source).faults;
