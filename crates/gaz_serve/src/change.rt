@@ -17,7 +17,7 @@ use std::str::from_utf8;
 
 /// Why a load or a day is refused.
 #[derive(Clone, Copy, Debug, PartialEq, Eq)]
-pub enum ChangeFault {
+pub(crate) enum ChangeFault {
     /// No load was accepted yet.
     NotLoaded,
     /// The date isn't the one after this, the gazetteer's.
