@@ -185,7 +185,13 @@ fn refused_loads_leave_the_gazetteer(rt: HostRuntime) -> Result<(), Fail> {
                 text: &["refused malformed allCountries.txt 1 latitude\n"],
             },
             Run {
-                name: "ids past both ends",
+                name: "an id of zero",
+                files: &[(DUMP, &["0\tZ\t\t\t0\t0\tP\tPPL\tAA\t\t\t\t\t\t\t\t\t\t\n"])],
+                requests: "load 2024-03-01\n",
+                text: &["refused malformed allCountries.txt 1 id\n"],
+            },
+            Run {
+                name: "an id past the greatest",
                 files: &[(
                     DUMP,
                     &["4294967296\tZ\t\t\t0\t0\tP\tPPL\tAA\t\t\t\t\t\t\t\t\t\t\n"],
@@ -230,18 +236,34 @@ fn days_in_sequence(rt: HostRuntime) -> Result<(), Fail> {
             Run {
                 name: "deletes come behind modifications",
                 files: &[
-                    (DUMP, &[A1, B2]),
+                    (DUMP, &[A1, B2, C3]),
                     (MODIFICATIONS, &[X2]),
                     (DELETES, &["2\tX\tgone\n"]),
                 ],
-                requests: "load 2024-03-01\nday 2024-03-02\nget 2\n",
-                text: &["ok load 2024-03-01\nok day 2024-03-02\nok 0\n"],
+                requests: "load 2024-03-01\nday 2024-03-02\nget 2\nget 1\n",
+                text: &[
+                    "ok load 2024-03-01\nok day 2024-03-02\nok 0\n",
+                    A1,
+                    "ok 1\n",
+                ],
             },
             Run {
                 name: "an unknown delete",
-                files: &[(DUMP, &[A1]), (MODIFICATIONS, &[]), (DELETES, &["77\n"])],
-                requests: "load 2024-03-01\nday 2024-03-02\nget 1\n",
-                text: &["ok load 2024-03-01\nok day 2024-03-02\n", A1, "ok 1\n"],
+                files: &[
+                    (DUMP, &[A1, B2, C3]),
+                    (MODIFICATIONS, &[]),
+                    (DELETES, &["77\n"]),
+                ],
+                requests: "load 2024-03-01\nday 2024-03-02\nget 1\nget 2\nget 3\n",
+                text: &[
+                    "ok load 2024-03-01\nok day 2024-03-02\n",
+                    A1,
+                    "ok 1\n",
+                    B2,
+                    "ok 1\n",
+                    C3,
+                    "ok 1\n",
+                ],
             },
             Run {
                 name: "a malformed delete leaves the gazetteer and its date",
