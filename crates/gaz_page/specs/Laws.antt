@@ -1,8 +1,20 @@
 -- How writing a root page and reading it go together.
-use Rattle.std.specs.Prelude.{◌≡◌, ℕ, List, ◌++◌, Some}
+use Rattle.std.specs.Prelude.{◌≡◌, ◌<◌, ℕ, List, ◌++◌, slice_index, Some}
 use Rattle.gaz_page.specs.declared.root.PlainRoot.{PlainRoot}
-use Rattle.gaz_page.specs.Root.{FitsPage, root_bytes, root_in}
+use Rattle.gaz_page.specs.Root.{FitsPage, root_bytes, page_in, root_in}
+
+-- Each number of the list is a byte.
+abbrev pub IsBytes : List ℕ → Type 0
+IsBytes bytes = (i : ℕ) → slice_index bytes i < 256
 
 -- A page that was written is read as it was, whatever stands behind it in the area.
 abbrev pub WrittenIsRead : Type 0
 WrittenIsRead = (root : PlainRoot) (rest : List ℕ) → FitsPage root → root_in (root_bytes root ++ rest) ≡ Some root
+
+-- A page that is read as a root is the one that is written for it.
+abbrev pub ReadIsWritten : Type 0
+ReadIsWritten = (page : List ℕ) (root : PlainRoot) → IsBytes page → page_in page ≡ Some root → page ≡ root_bytes root
+
+-- The fields that are read of a page fit into their places.
+abbrev pub ReadFits : Type 0
+ReadFits = (page : List ℕ) (root : PlainRoot) → IsBytes page → page_in page ≡ Some root → FitsPage root
