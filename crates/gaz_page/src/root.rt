@@ -1,7 +1,7 @@
 //! The root page of version 0: which text is the gazetteer.
-ghost use Rattle.std.specs.Prelude.{◌≡◌, ◌≤◌, ◌+◌, ◌&&◌, length, nat_le};
+ghost use Rattle.std.specs.Prelude.{◌≡◌, ◌≤◌, ◌+◌, ◌&&◌, length, nat_le, IfSome};
 ghost use Rattle.gaz_num.specs.Dates.{last_day};
-ghost use Rattle.gaz_page.specs.Root.{side_code, side_of, counts_at, root_head, root_bytes, has_marks, has_gaps, page_in, number_at as number_in, long_at as long_in};
+ghost use Rattle.gaz_page.specs.Root.{FitsPage, side_code, side_of, counts_at, root_head, root_bytes, has_marks, has_gaps, page_in, number_at as number_in, long_at as long_in};
 
 use crate::{PAGE, Side};
 use gaz_num::Day;
@@ -141,7 +141,8 @@ fn counts_in(page: &[u8]) -> LineCounts
 
 /// What a root page of version 0 says, or `None` where these bytes are none.
 pub fn read_plain_root(page: &[u8]) -> Option<PlainRoot>
-    ensures { result ≡ page_in page.now }
+    ensures root { result ≡ page_in page.now }
+    ensures fits { IfSome result FitsPage }
 {
     if page.len() != PAGE || !is_marked(page) || !is_zero_between(page) {
         return None;
