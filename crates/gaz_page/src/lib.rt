@@ -8,6 +8,8 @@
 mod laws;
 mod page;
 mod root;
+#[cfg(test)]
+mod tests;
 
 pub use laws::{read_is_written, written_is_read};
 pub use page::{PAGE, Side};
