@@ -8,3 +8,4 @@ pub mod Steps
 pub mod Found
 pub mod Edited
 pub mod Taken
+pub mod TextTests

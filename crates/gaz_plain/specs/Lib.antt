@@ -1,4 +1,5 @@
 pub mod Gazetteer
+pub mod Text
 pub mod Fold
 pub mod Load
 pub mod Laws
