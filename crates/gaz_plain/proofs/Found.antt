@@ -91,7 +91,7 @@ then_equal Equal = refl
 then_equal Greater = refl
 
 -- an entry's row compares with a key as the ids do
-compares : (entry : Entry) (id : ℕ) → key_cmp (key_of Rows (vec_items entry.line)) (id ∷ []) ≡ nat_cmp entry.id id
+pub compares : (entry : Entry) (id : ℕ) → key_cmp (key_of Rows (vec_items entry.line)) (id ∷ []) ≡ nat_cmp entry.id id
 compares entry id = rw (key_of_entry entry) (then_equal (nat_cmp entry.id id))
 
 -- the tests of a comparison, by what holds of the numbers
@@ -121,7 +121,7 @@ module _ (es : List Entry) (order : AreInOrder (rows_of es)) (id : ℕ) where
   abbrev id_at : ℕ → Entry → ℕ
   id_at k d = (get_or es k d).id
 
-  ids_rise : (i j : ℕ) (d : Entry) → i < j → j < length es → id_at i d < id_at j d
+  pub ids_rise : (i j : ℕ) (d : Entry) → i < j → j < length es → id_at i d < id_at j d
   ids_rise i j d lt in_range =
       let less = order.rising i j (row d) lt (omega (arith, length-map es row)) in
       let rows_less : key_cmp (key_of Rows (row (get_or es i d))) (key_of Rows (row (get_or es j d))) ≡ Less = rw (get_or-map row es i d, get_or-map row es j d) at less in

@@ -20,7 +20,7 @@ use Rattle.gaz_plain.proofs.Folds.{LinesKeep, IfOk-bind, IfOk-always, IfOk-weake
 use Rattle.gaz_plain.proofs.Steps.{key_of_row}
 
 -- other rows that are a table
-rows_kept : (date : Option ℕ) → IsSome date → (gaz : Gazetteer) (rows : List (List ℕ)) → IsGazetteerOf date gaz → IsTable Rows rows → IsGazetteerOf date (with_lines gaz Rows rows)
+pub rows_kept : (date : Option ℕ) → IsSome date → (gaz : Gazetteer) (rows : List (List ℕ)) → IsGazetteerOf date gaz → IsTable Rows rows → IsGazetteerOf date (with_lines gaz Rows rows)
 rows_kept date some gaz rows is table = record {
   is_gazetteer = record {
     tables = λ t. by t;

@@ -9,3 +9,4 @@ pub mod Found
 pub mod Edited
 pub mod Taken
 pub mod TextTests
+pub mod Grown

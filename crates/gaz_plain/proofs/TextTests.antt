@@ -1,20 +1,19 @@
 -- The tests on a text tell what the definitions say.
-use Rattle.std.proofs.Common.{◌≡◌, ℕ, zero, suc, ◌≤◌, Bool, true, false, List, [], ◌∷◌, length, Option, Some, None, IsSome, refl, sym, ap, subst, ◌∙◌, arith}
+use Rattle.std.proofs.Common.{◌≡◌, ℕ, zero, suc, ◌≤◌, List, [], ◌∷◌, length, Option, Some, None, IsSome, refl, sym, ap, ◌∙◌, arith}
 use mathlib.Core.Bool.{true≢false}
-use Rattle.std.specs.Prelude.{is_none, is_some, get_or, nat_le, ◌&&◌, ◌==◌}
+use Rattle.std.specs.Prelude.{is_none, is_some, nat_le, ◌&&◌}
 use Rattle.std.specs.List.{All, AllPairs, list_all}
 use Rattle.std.specs.Bool.{Decides}
 use Rattle.std.specs.Ordering.{is_lt}
 use Rattle.std.specs.declared.cmp.Ordering.{Ordering}
 use Rattle.std.specs.declared.cmp.Ordering.TheVariants.{Less, Equal, Greater}
 use Rattle.std.proofs.lemmas.Bool.Decides.{nat_tests, Decides-and, Decides-by_and, Decides-like}
-use Rattle.std.proofs.lemmas.List.Elements.{All-nil, All-cons, All-head, All-tail}
 use Rattle.gaz_num.specs.declared.words.Kind.{Kind}
 use Rattle.gaz_num.specs.declared.words.Table.{Table}
 use Rattle.gaz_num.specs.declared.words.Table.TheVariants.{Rows}
 use Rattle.gaz_num.specs.declared.words.Reason.{Reason}
 use Rattle.gaz_num.specs.Check.{reason_against}
-use Rattle.gaz_plain.specs.Gazetteer.{Gazetteer, IsLine, IsTable, IsGazetteer, KeysRise, empty, in_tables, kind_in, key_of, key_cmp, limit_of, lines_in, is_one_line}
+use Rattle.gaz_plain.specs.Gazetteer.{Gazetteer, IsLine, IsTable, IsGazetteer, KeysRise, in_tables, kind_in, key_of, key_cmp, limit_of, lines_in, is_one_line}
 use Rattle.gaz_plain.specs.Text.{is_line, has_lesser_key, keys_rise, is_table, has_no_line, has_no_more, is_dated_gazetteer}
 
 none_told : (o : Option Reason) → Decides (is_none o) (o ≡ None)

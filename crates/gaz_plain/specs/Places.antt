@@ -1,9 +1,10 @@
 -- Where a key stands, or would stand, in a list of rows.
-use Rattle.std.specs.Prelude.{◌≡◌, ℕ, suc, ◌<◌, ◌≤◌, List, [], ◌∷◌, ◌++◌, length, take, drop, slice_get, Some, None}
+use Rattle.std.specs.Prelude.{◌≡◌, ℕ, suc, ◌<◌, ◌≤◌, List, [], ◌∷◌, ◌++◌, length, take, drop, slice_get, Some, None, All}
+use Rattle.std.specs.declared.cmp.Ordering.TheVariants.{Less}
 use Rattle.gaz_num.specs.declared.words.Kind.TheVariants.{Row}
 use Rattle.gaz_num.specs.declared.words.Table.TheVariants.{Rows}
 use Rattle.gaz_num.specs.Check.{key_in}
-use Rattle.gaz_plain.specs.Gazetteer.{line_at, replaced}
+use Rattle.gaz_plain.specs.Gazetteer.{key_of, key_cmp, line_at, replaced}
 
 -- The id is the key of the row.
 abbrev pub IsIdOf : ℕ → List ℕ → Type 0
@@ -16,6 +17,10 @@ with_row id row rows = replaced Rows (id ∷ []) (row ∷ []) rows
 -- the rows without the one that has the id
 abbrev pub without_row : ℕ → List (List ℕ) → List (List ℕ)
 without_row id rows = replaced Rows (id ∷ []) [] rows
+
+-- All rows have lesser ids.
+abbrev pub EndsBefore : ℕ → List (List ℕ) → Type 0
+EndsBefore id rows = All (λ row. key_cmp (key_of Rows row) (id ∷ []) ≡ Less) rows
 
 -- The row with this id stands at the place: to replace it is to replace what stands there.
 pub record IsPlaceOf (id : ℕ) (rows : List (List ℕ)) (place : ℕ) : Type 0 where

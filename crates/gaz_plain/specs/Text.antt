@@ -1,12 +1,12 @@
 -- A gazetteer as one text, and the tests by which a text is known to be one.
-use Rattle.std.specs.Prelude.{ℕ, ◌+◌, Bool, true, false, ◌&&◌, nat_le, List, [], ◌∷◌, ◌++◌, length, is_none, is_some}
+use Rattle.std.specs.Prelude.{ℕ, Bool, true, false, ◌&&◌, nat_le, List, [], ◌∷◌, ◌++◌, length, is_none, is_some}
 use Rattle.std.specs.List.{flat_map, list_all}
 use Rattle.std.specs.Ordering.{is_lt}
 use Rattle.gaz_num.specs.declared.words.Kind.{Kind}
 use Rattle.gaz_num.specs.declared.words.Table.{Table}
 use Rattle.gaz_num.specs.declared.words.Table.TheVariants.{Rows}
 use Rattle.gaz_num.specs.Check.{reason_against}
-use Rattle.gaz_plain.specs.Gazetteer.{Gazetteer, lines_in, limit_of, kind_in, key_of, key_cmp, is_one_line}
+use Rattle.gaz_plain.specs.Gazetteer.{Gazetteer, limit_of, kind_in, key_of, key_cmp, is_one_line}
 
 -- the lines, each with an LF behind it
 abbrev pub lined : List (List ℕ) → List ℕ

@@ -1,8 +1,9 @@
 //! The gazetteer that is stepped on plain lists.
-ghost use Rattle.std.specs.Prelude.{◌≡◌, ◌∷◌, [], IsSome, IsTrue, IfOk, IfErr, OnOk, OnErr, Ok};
+ghost use Rattle.std.specs.Prelude.{◌≡◌, ◌∷◌, ◌++◌, [], true, false, length, slice_get, IsSome, IsTrue, IfOk, IfErr, OnOk, OnErr, Ok};
 ghost use Rattle.std.specs.Option.{option_copied};
 ghost use Rattle.gaz_num.specs.declared.words.Table.TheVariants.{Rows};
-ghost use Rattle.gaz_plain.specs.Gazetteer.{empty, dated, is_one_line, line_with, after_line, IsLine, IsGazetteer};
+ghost use Rattle.gaz_plain.specs.Gazetteer.{empty, dated, is_one_line, lines_in, with_lines, line_with, after_line, IsLine, IsGazetteer};
+ghost use Rattle.gaz_plain.specs.Text.{is_table};
 ghost use Rattle.gaz_plain.specs.Places.{IsIdOf};
 ghost use Rattle.gaz_plain.specs.Faults.{IsFaultOf};
 
@@ -147,6 +148,54 @@ impl PlainGaz {
         ensures { option_copied result ≡ line_with Rows (id ∷ []) self.now }
     {
         self.rows.get(id)
+    }
+
+    /// How many lines the table has.
+    pub fn count(&self, table: Table) -> u32
+        ensures { result ≡ length (lines_in self.now table) }
+    {
+        match table {
+            Table::Rows => self.rows.len() as u32,
+        }
+    }
+
+    /// The n-th line of the table in the order of keys, from 0.
+    pub fn line(&self, table: Table, n: u32) -> Option<&[u8]>
+        ensures { option_copied result ≡ slice_get (lines_in self.now table) n }
+    {
+        match table {
+            Table::Rows => self.rows.at(n as usize),
+        }
+    }
+
+    /// Puts a line behind all others of its table, or answers `false` where they would be no table then: where the line
+    /// fails its check, its key isn't greater than theirs, or the table is full.
+    pub fn append(&mut self, table: Table, line: &[u8]) -> Result<bool, AllocError>
+        requires dated { IsSome self.old.date }
+        requires one_line { IsTrue (is_one_line line.now) }
+        ensures fits { IfOk result (λ fits. fits ≡ is_table table (lines_in self.old table ++ line.now ∷ [])) }
+        ensures put { IfOk result (λ fits. fits ≡ true → self.new ≡ with_lines self.old table (lines_in self.old table ++ line.now ∷ [])) }
+        ensures left { IfOk result (λ fits. fits ≡ false → self.new ≡ self.old) }
+        ensures err { OnErr result (self.new ≡ self.old) }
+    {
+        match table {
+            Table::Rows => self.append_row(line),
+        }
+    }
+
+    /// Puts a row behind all others.
+    fn append_row(&mut self, line: &[u8]) -> Result<bool, AllocError>
+        requires dated { IsSome self.old.date }
+        requires one_line { IsTrue (is_one_line line.now) }
+        ensures fits { IfOk result (λ fits. fits ≡ is_table Rows (self.old.rows ++ line.now ∷ [])) }
+        ensures put { IfOk result (λ fits. fits ≡ true → self.new ≡ with_lines self.old Rows (self.old.rows ++ line.now ∷ [])) }
+        ensures left { IfOk result (λ fits. fits ≡ false → self.new ≡ self.old) }
+        ensures err { OnErr result (self.new ≡ self.old) }
+    {
+        let Ok(id) = check_row(line) else {
+            return Ok(false);
+        };
+        self.rows.append(id, line)
     }
 
     /// An equal one, whose steps leave this one. A day is folded on a copy.

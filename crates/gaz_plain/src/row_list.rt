@@ -64,11 +64,13 @@ impl Model for RowList {
 }
 
 impl RowList {
-    ghost use Rattle.std.specs.Prelude.{◌≡◌, ◌<◌, ◌≤◌, [], ◌∷◌, length, IfOk, IfErr, OnOk, OnErr};
+    ghost use Rattle.std.specs.Prelude.{◌≡◌, ◌<◌, ◌≤◌, true, false, [], ◌∷◌, ◌++◌, length, slice_get, IfOk, IfErr, OnOk, OnErr};
+    ghost use Rattle.std.specs.Bool.{Decides};
     ghost use Rattle.std.specs.Option.{option_copied};
     ghost use Rattle.gaz_num.specs.declared.words.Table.TheVariants.{Rows};
     ghost use Rattle.gaz_plain.specs.Gazetteer.{limit_of, line_at};
-    ghost use Rattle.gaz_plain.specs.Places.{IsIdOf, IsPlaceOf, IsGapFor, with_row, without_row};
+    ghost use Rattle.gaz_plain.specs.Entries.{AreInOrder};
+    ghost use Rattle.gaz_plain.specs.Places.{IsIdOf, IsPlaceOf, IsGapFor, EndsBefore, with_row, without_row};
 
     pub fn new(alloc: Global) -> RowList
         ensures { result ≡ [] }
@@ -93,6 +95,58 @@ impl RowList {
             Ok(place) => Some(self.entries[place].line.as_slice()),
             Err(_) => None,
         }
+    }
+
+    /// How many rows there are.
+    pub fn len(&self) -> usize
+        ensures count { result ≡ length self.now }
+        ensures within { result ≤ limit_of Rows }
+    {
+        self.entries.len()
+    }
+
+    /// The n-th row in the order of ids, from 0.
+    pub fn at(&self, n: usize) -> Option<&[u8]>
+        ensures { option_copied result ≡ slice_get self.now n }
+    {
+        match self.entries.get(n) {
+            Some(entry) => Some(entry.line.as_slice()),
+            None => None,
+        }
+    }
+
+    /// Whether all rows have lesser ids.
+    fn ends_before(&self, id: u32) -> bool
+        ensures { Decides result (EndsBefore id self.now) }
+    {
+        match self.entries.last() {
+            Some(last) => last.id < id,
+            None => true,
+        }
+    }
+
+    /// Whether a row with the id can stand behind all others.
+    fn takes_behind(&self, id: u32) -> bool
+        ensures { Decides result ((length self.now < limit_of Rows) × EndsBefore id self.now) }
+    {
+        self.entries.len() < LIMIT && self.ends_before(id)
+    }
+
+    /// Puts the row behind all others, or answers `false` where its id isn't greater than theirs or the list is full.
+    pub fn append(&mut self, id: u32, row: &[u8]) -> Result<bool, AllocError>
+        requires { IsIdOf id row.now }
+        ensures fits { IfOk result (λ fits. Decides fits (AreInOrder (self.old ++ row.now ∷ []))) }
+        ensures put { IfOk result (λ fits. fits ≡ true → self.new ≡ self.old ++ row.now ∷ []) }
+        ensures left { IfOk result (λ fits. fits ≡ false → self.new ≡ self.old) }
+        ensures err { OnErr result (self.new ≡ self.old) }
+    {
+        if !self.takes_behind(id) {
+            return Ok(false);
+        }
+        let alloc = *self.entries.allocator();
+        let entry = Entry::new(alloc, id, row)?;
+        self.entries.push(entry)?;
+        Ok(true)
     }
 
     /// Puts the row in the place of the one with its id, or where it would stand.
