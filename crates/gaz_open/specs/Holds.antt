@@ -1,0 +1,21 @@
+-- What the outcomes of a moment hold.
+use Rattle.std.specs.Prelude.{◌≡◌, ◌⊎◌, Some}
+use Rattle.gaz_outside.specs.Station.{StationView, Outcome, Leaves}
+use Rattle.gaz_plain.specs.Gazetteer.{Gazetteer}
+use Rattle.gaz_open.specs.Content.{mirror_in}
+
+-- All outcomes of this moment have the gazetteer.
+abbrev pub AllHold : StationView → Gazetteer → Type 0
+AllHold v gaz = (c : Outcome) → Leaves v c → mirror_in c.areas ≡ Some gaz
+
+-- The outcomes of this moment have no one gazetteer.
+abbrev pub HasNone : StationView → Type 0
+HasNone v = (gaz : Gazetteer) → AllHold v gaz → ⊥
+
+-- The gazetteer still stands, and nothing more is printed.
+abbrev pub IsStill : Gazetteer → StationView → Outcome → Type 0
+IsStill gaz v c = (mirror_in c.areas ≡ Some gaz) × (c.text ≡ v.printed)
+
+-- The old gazetteer stands or the next, and nothing more is printed.
+abbrev pub IsOldOrNext : Gazetteer → Gazetteer → StationView → Outcome → Type 0
+IsOldOrNext gaz next v c = ((mirror_in c.areas ≡ Some gaz) ⊎ (mirror_in c.areas ≡ Some next)) × (c.text ≡ v.printed)

@@ -1,0 +1,4 @@
+pub mod Content
+pub mod Holds
+pub mod Fits
+pub mod Opens

@@ -1,0 +1,40 @@
+-- What an opening finds, and what it leaves.
+use Rattle.std.specs.Prelude.{◌≡◌, ◌⊎◌, ◌<◌, ◌≤◌, ℕ, true, false, List, length, Some, None, Result, Ok, Err}
+use Rattle.gaz_outside.specs.declared.station.Area.{Area}
+use Rattle.gaz_outside.specs.declared.station.Area.TheVariants as area
+use Rattle.gaz_outside.specs.Outside.{RisesOnce}
+use Rattle.gaz_outside.specs.Station.{StationView}
+use Rattle.gaz_redo.specs.Content.{is_open}
+use Rattle.gaz_redo.specs.Form.{IsInForm}
+use Rattle.gaz_redo.specs.Recovered.{AllStable}
+use Rattle.gaz_page.specs.Root.{root_in}
+use Rattle.gaz_open.specs.declared.find.Found.{Found}
+use Rattle.gaz_open.specs.declared.find.Found.TheVariants.{Empty, Named, NotARoot}
+use Rattle.gaz_open.specs.declared.fault.OpenFault.{OpenFault}
+use Rattle.gaz_open.specs.declared.fault.OpenFault.TheVariants.{Station}
+use Rattle.gaz_open.specs.Content.{mirror_in}
+
+-- The gate is open over a log that isn't in form.
+abbrev pub HasNoLog : (Area → List ℕ) → Type 0
+HasNoLog areas = (is_open (areas area.Mark) ≡ true) × (IsInForm areas → ⊥)
+
+-- The gate is closed, or the log is in form.
+abbrev pub HasLog : (Area → List ℕ) → Type 0
+HasLog areas = (is_open (areas area.Mark) ≡ false) ⊎ IsInForm areas
+
+-- The gate is closed, nothing is pending, and the gazetteer is that of before.
+pub record IsSettled (old new : StationView) : Type 0 where
+  pub closed : is_open (new.bytes area.Mark) ≡ false
+  pub stable : AllStable new
+  pub content : mirror_in new.bytes ≡ mirror_in old.bytes
+
+-- what Root says
+abbrev pub Finds : Found → List ℕ → Type 0
+Finds Empty bytes = length bytes < 4096
+Finds (Named root) bytes = (4096 ≤ length bytes) × (root_in bytes ≡ Some root)
+Finds NotARoot bytes = (4096 ≤ length bytes) × (root_in bytes ≡ None)
+
+-- The count of faults rises by one where the station failed, and else stands.
+abbrev pub FailsOnce : {A : Type 0} → ℕ → ℕ → Result A OpenFault → Type 0
+FailsOnce before now (Err Station) = RisesOnce before now
+FailsOnce before now other = now ≡ before
