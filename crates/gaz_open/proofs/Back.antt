@@ -1,6 +1,6 @@
 -- A gazetteer that was written is read again.
-use Rattle.std.proofs.Common.{◌≡◌, ℕ, zero, suc, ◌+◌, ◌*◌, ◌-◌, ◌<◌, ◌≤◌, Bool, true, false, true≢false, List, [], ◌∷◌, ◌++◌, length, take, drop, replicate, refl, sym, ◌∙◌, ap, subst, arith, append_assoc, length-append, Option, Some, None}
-use Rattle.std.specs.Prelude.{◌==◌, ◌≢◌, ◌^◌, IsTrue, not, ◌&&◌, ◌||◌, is_some, option_and_then, nat_lt, nat_le, if◌then◌else◌}
+use Rattle.std.proofs.Common.{◌≡◌, ℕ, ◌+◌, ◌*◌, ◌-◌, ◌<◌, ◌≤◌, Bool, true, false, true≢false, List, [], ◌∷◌, ◌++◌, length, take, drop, replicate, refl, sym, ◌∙◌, ap, subst, arith, append_assoc, length-append, Option, Some, None}
+use Rattle.std.specs.Prelude.{◌==◌, ◌≢◌, ◌^◌, IsTrue, not, ◌||◌, is_some, option_and_then, nat_lt, nat_le, if◌then◌else◌}
 use Rattle.std.specs.List.{AllByRecursion, list_any}
 use Rattle.std.specs.Str.{is_utf8}
 use Rattle.std.proofs.lemmas.Bool.Decides.{nat_tests}
@@ -18,7 +18,7 @@ use Rattle.gaz_num.specs.Check.{reason_against, first_failing, tests, line_limit
 use Rattle.gaz_num.specs.Pieces.{pieces, all_but_last, last_if_any, ended_lines}
 use Rattle.gaz_lines.specs.Lines as cut
 use Rattle.gaz_lines.proofs.Pieces.{pieces_line}
-use Rattle.gaz_plain.specs.Gazetteer.{Gazetteer, IsLine, IsTable, IsGazetteer, empty, in_tables, limit_of, is_one_line}
+use Rattle.gaz_plain.specs.Gazetteer.{Gazetteer, IsLine, IsTable, IsGazetteer, empty, in_tables, is_one_line}
 use Rattle.gaz_plain.specs.Text.{lined, all_lines, text_of, has_no_line, is_dated_gazetteer}
 use Rattle.gaz_plain.proofs.TextTests.{gazetteer_told}
 use Rattle.gaz_page.specs.declared.page.Side.{Side}

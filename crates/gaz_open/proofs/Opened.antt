@@ -1,19 +1,19 @@
 -- What a stop leaves of a mirror while it is opened.
-use Rattle.std.proofs.Common.{◌≡◌, ◌+◌, ◌-◌, ◌<◌, ◌≤◌, min, ℕ, Bool, true, false, length, take, drop, arith, List, refl, sym, ◌∙◌, ap, subst, Option, Some, None}
+use Rattle.std.proofs.Common.{◌≡◌, ◌⊎◌, ◌+◌, ◌-◌, ◌*◌, ◌<◌, ◌≤◌, min, ℕ, Bool, true, false, length, take, drop, arith, List, refl, sym, ◌∙◌, ap, subst, Option, Some, None}
 use Rattle.std.specs.Prelude.{option_and_then, nat_le, nat_lt, if◌then◌else◌}
 use Rattle.std.proofs.lemmas.Bool.Decides.{nat_tests}
 use Rattle.std.proofs.lemmas.List.{take_all}
 use Rattle.gaz_outside.specs.declared.station.Area.{Area}
 use Rattle.gaz_outside.specs.declared.station.Area.TheVariants as area
-use Rattle.gaz_outside.specs.Station.{StationView, Outcome, Leaves, LeavesOnly, Confined}
+use Rattle.gaz_outside.specs.Station.{StationView, Outcome, Leaves, LeavesOnly, Confined, Counts}
 use Rattle.gaz_outside.proofs.Runs.{leaves_weaker, goes_far}
 use Rattle.gaz_plain.specs.Gazetteer.{Gazetteer, empty}
 use Rattle.gaz_redo.specs.Slots.{SameBytes}
-use Rattle.gaz_redo.specs.Content.{Contents, content, content_by, is_log, is_open, laid, slots_of, three}
+use Rattle.gaz_redo.specs.Content.{Contents, content, content_by, is_log, is_open, laid, slot_count, slots_of, three}
 use Rattle.gaz_redo.proofs.Words.{form_from}
 use Rattle.gaz_redo.proofs.Steps.{stays_stable}
 use Rattle.gaz_redo.specs.Form.{IsInForm}
-use Rattle.gaz_redo.specs.Recovered.{AllStable, StandsFor, IsRedone}
+use Rattle.gaz_redo.specs.Recovered.{AllStable, StandsFor, IsRedone, SlotsToRedo}
 use Rattle.gaz_open.specs.Holds.{AllHold, HasNone, IsStill}
 use Rattle.gaz_num.specs.Numbers.{some_if}
 use Rattle.gaz_page.specs.Root.{root_in, page_in}
@@ -22,7 +22,7 @@ use Rattle.gaz_page.specs.declared.page.Side.{Side}
 use Rattle.gaz_open.specs.Content.{mirror_in, gaz_in, gaz_of, named_by, side_area, text_at}
 use Rattle.gaz_open.specs.Fits.{Fits, HasStable, Names}
 use Rattle.gaz_open.proofs.Back.{mirror_closed, side_three}
-use Rattle.gaz_open.specs.Opens.{HasNoLog, IsSettled}
+use Rattle.gaz_open.specs.Opens.{HasNoLog, IsSettled, NothingToRedo, text_pieces, content_pieces}
 
 pub same_content : (f h : Area → List ℕ) → content f ≡ content h → mirror_in f ≡ mirror_in h
 unfolding mirror_in
@@ -54,6 +54,15 @@ module _ (v0 v1 : StationView) (run : Confined SameBytes v0 v1) where
   pub same_form : IsInForm v1.bytes → IsInForm v0.bytes
   same_form form = subst IsInForm (λ i a. run.bytes a i) form
 
+  -- what is to be redone before the areas are synced is so after
+  pub same_slots : (slots : ℕ) → SlotsToRedo v0 slots → SlotsToRedo v1 slots
+  same_slots slots redo =
+      subst (λ (f : Area → List ℕ). ((is_open (f area.Mark) ≡ false) × (slots ≡ 0)) ⊎ ((is_open (f area.Mark) ≡ true) × (is_log f ≡ true) × (slots ≡ slot_count (f area.Log))))
+      (λ i a. sym (run.bytes a) i) redo
+
+  pub same_nothing : NothingToRedo v0.bytes → NothingToRedo v1.bytes
+  same_nothing none = subst NothingToRedo (λ i a. sym (run.bytes a) i) none
+
   -- the areas as they read after a recovery stand for what they stood for
   pub settled_redone : (v2 : StationView) → ((a : Area) → v2.may_leave a (v2.bytes a)) → ((c : Outcome) → Leaves v2 c → v2.left_since v1.moment c) → LeavesOnly v1 v2 (StandsFor v1) → IsRedone v1 v2 → IsSettled v0 v2
   settled_redone v2 stay now recovers redone =
@@ -62,7 +71,7 @@ module _ (v0 v1 : StationView) (run : Confined SameBytes v0 v1) where
       record {
         closed = redone.closed;
         stable = redone.stable;
-        content = same_content v2.bytes v1.bytes stands.0 ∙ same_areas v1.bytes v0.bytes run.bytes;
+        content = stands.0 ∙ ap content (λ i a. run.bytes a i);
       }
 
 -- what a read of a page says of Root
@@ -116,15 +125,33 @@ unfolding mirror_in
 no_log_no_gaz areas none =
     ap (option_and_then gaz_in) (no_content (is_open (areas area.Mark)) (is_log areas) (three areas) (laid (slots_of (areas area.Log)) (three areas)) none.0 (λ is. none.1 (form_from areas is)))
 
+closed_content : (b c : Bool) (whole over : Contents) → b ≡ false → content_by b c whole over ≡ Some whole
+closed_content false c whole over shut = refl
+closed_content true c whole over shut = absurd (cc shut)
+
 -- after the areas are settled, they are only read
 module _ (v0 v1 v2 : StationView) (settled : IsSettled v0 v1) (run : Confined SameBytes v1 v2) where
+  settled_same : mirror_in v1.bytes ≡ mirror_in v0.bytes
+  settled_same = same_content v1.bytes v0.bytes settled.content
+
+  -- the text of the content is the one that the root page names then
+  pub pieces_settled : content_pieces (content v0.bytes) ≡ text_pieces (root_in (v1.bytes area.Root))
+  pieces_settled = ap content_pieces (sym settled.content ∙ closed_content (is_open (v1.bytes area.Mark)) (is_log v1.bytes) (three v1.bytes) (laid (slots_of (v1.bytes area.Log)) (three v1.bytes)) settled.closed)
+
   pub while_read : (gaz : Gazetteer) → ((a : Area) → v0.may_leave a (v0.bytes a)) → AllHold v0 gaz → v1.printed ≡ v0.printed → LeavesOnly v0 v1 (IsStill gaz v0) → LeavesOnly v0 v2 (IsStill gaz v0)
   while_read gaz stay holds printed so_far =
       goes_far v0 v1 v2 _ _ so_far run.moments
       (λ c near. (
-        same_areas c.areas v1.bytes (λ a. (near.areas a).2 ∙ settled.stable a (near.areas a).0 (near.areas a).1) ∙ settled.content ∙ holds_now v0 gaz stay holds,
+        same_areas c.areas v1.bytes (λ a. (near.areas a).2 ∙ settled.stable a (near.areas a).0 (near.areas a).1) ∙ settled_same ∙ holds_now v0 gaz stay holds,
         near.text ∙ printed,
       ))
+
+  -- what was read before, and for the root page and its text
+  pub reads_in_all : (slots : ℕ) → v1.reads ≤ v0.reads + 8 * (slots + 1) → Counts (1 + text_pieces (root_in (v1.bytes area.Root))) 0 v1 v2 → v2.reads ≤ v0.reads + 8 * (slots + 1) + (1 + content_pieces (content v0.bytes))
+  reads_in_all slots so_far costs = let further = costs.reads in let same = pieces_settled in omega (arith, so_far, further, same)
+
+  pub writes_in_all : (slots most : ℕ) → v1.writes ≤ v0.writes + slots + 1 → Counts most 0 v1 v2 → v2.writes ≤ v0.writes + slots + 1
+  writes_in_all slots most so_far costs = let further = costs.writes in omega (arith, so_far, further)
 
   pub all_stable : AllStable v2
   all_stable a c may = stays_stable v1 v2 a run (settled.stable a) c may
@@ -145,10 +172,10 @@ module _ (v0 v1 v2 : StationView) (settled : IsSettled v0 v1) (run : Confined Sa
   -- all outcomes have what was read
   pub holds_then : (gaz : Gazetteer) → mirror_in v0.bytes ≡ Some gaz → AllHold v2 gaz
   holds_then gaz is c leaves =
-      same_areas c.areas v1.bytes (λ a. all_stable a (c.areas a) (leaves.areas a) ∙ run.bytes a) ∙ settled.content ∙ is
+      same_areas c.areas v1.bytes (λ a. all_stable a (c.areas a) (leaves.areas a) ∙ run.bytes a) ∙ settled_same ∙ is
 
   pub read_settled : mirror_in v0.bytes ≡ gaz_in (three v1.bytes)
-  read_settled = sym settled.content ∙ mirror_closed v1.bytes settled.closed
+  read_settled = sym settled_same ∙ mirror_closed v1.bytes settled.closed
 
 -- from what the areas as they read stand for
 pub one_opened : (v : StationView) (x gaz : Gazetteer) → ((a : Area) → v.may_leave a (v.bytes a)) → mirror_in v.bytes ≡ Some x → AllHold v gaz → x ≡ gaz

@@ -1,20 +1,18 @@
 -- A text that is read line by line as rows.
-use Rattle.std.proofs.Common.{◌≡◌, ℕ, zero, suc, ◌+◌, ◌-◌, ◌<◌, ◌≤◌, Bool, true, false, true≢false, List, [], ◌∷◌, ◌++◌, length, take, drop, get_or, refl, sym, ◌∙◌, ap, subst, arith, append_assoc, length-append, Option, Some, None, IsSome}
-use Rattle.std.specs.Prelude.{◌==◌, ◌&&◌, IsTrue, not, is_some, slice_index}
-use Rattle.std.specs.List.{All, AllPairs, AllByRecursion, list_any}
-use Rattle.std.specs.Bool.{Decides}
-use Rattle.std.proofs.lemmas.Bool.Decides.{nat_tests, same_from_decides}
+use Rattle.std.proofs.Common.{◌≡◌, ℕ, suc, ◌+◌, ◌-◌, ◌≤◌, Bool, true, false, true≢false, List, [], ◌∷◌, ◌++◌, length, take, drop, get_or, refl, sym, ◌∙◌, ap, subst, arith, append_assoc, length-append, Option, Some, None}
+use Rattle.std.specs.Prelude.{◌==◌, ◌&&◌, IsTrue, not}
+use Rattle.std.proofs.lemmas.Bool.Decides.{nat_tests}
 use Rattle.std.proofs.lemmas.List.{append-nil, get_or_append_left, take-append-drop, drop-drop, take_all, length-take-le, length-drop}
 use Rattle.std.proofs.Math.Seq.{drop-cons}
 use Rattle.memchr.specs.Find.{IsFirstByte, is_byte}
 use Rattle.gaz_num.specs.declared.words.Table.TheVariants.{Rows}
 use Rattle.gaz_num.specs.declared.words.Kind.TheVariants.{Row}
 use Rattle.gaz_num.specs.Numbers.{some_if}
-use Rattle.gaz_num.specs.Pieces.{pieces, ended_lines, last_if_any, if_any}
+use Rattle.gaz_num.specs.Pieces.{ended_lines, last_if_any, if_any}
 use Rattle.gaz_lines.specs.Lines as cut
 use Rattle.gaz_lines.proofs.Lists.{line_of_none}
 use Rattle.gaz_lines.proofs.Pieces.{pieces_line, pieces_last, pieces_some, ended_line}
-use Rattle.gaz_plain.specs.Gazetteer.{Gazetteer, IsLine, IsTable, IsGazetteer, KeysRise, empty, with_lines, is_one_line, limit_of}
+use Rattle.gaz_plain.specs.Gazetteer.{Gazetteer, IsLine, IsTable, IsGazetteer, KeysRise, empty, with_lines, is_one_line}
 use Rattle.gaz_plain.specs.Text.{is_table, has_no_line, is_dated_gazetteer}
 use Rattle.gaz_plain.proofs.TextTests.{table_told, gazetteer_told}
 use Rattle.gaz_page.specs.declared.root.PlainRoot.{PlainRoot}
@@ -69,10 +67,10 @@ table_front : (xs ys : List (List ℕ)) → IsTable Rows (xs ++ ys) → IsTable 
 table_front xs ys table = record {
   each = λ k d lt. subst (IsLine Row) (get_or_append_left xs ys d k lt) (table.each k d (omega (arith, lt, length-append xs ys)));
   rising = λ i j d lt within.
-  let a = get_or_append_left xs ys d i (omega (arith, lt, within)) in
-  let b = get_or_append_left xs ys d j within in
-  subst (λ (x : List ℕ). KeysRise Rows x (get_or xs j d)) a
-  (subst (λ (y : List ℕ). KeysRise Rows (get_or (xs ++ ys) i d) y) b (table.rising i j d lt (omega (arith, within, length-append xs ys))));
+      let a = get_or_append_left xs ys d i (omega (arith, lt, within)) in
+      let b = get_or_append_left xs ys d j within in
+      subst (λ (x : List ℕ). KeysRise Rows x (get_or xs j d)) a
+      (subst (λ (y : List ℕ). KeysRise Rows (get_or (xs ++ ys) i d) y) b (table.rising i j d lt (omega (arith, within, length-append xs ys))));
   within = let most = table.within in omega (arith, most, length-append xs ys);
 }
 
@@ -124,9 +122,9 @@ pub stops : (text line rest : List ℕ) (first now : Gazetteer) → UnderWay tex
 stops text line rest first now way is unfit =
     let front : ended_lines text ≡ (way.done ++ line ∷ []) ++ ended_lines rest = way.lines ∙ ap (λ (ls : List (List ℕ)). way.done ++ ls) (lines_then line rest is) ∙ sym (append_assoc way.done (line ∷ []) (ended_lines rest)) in
     let none : is_table Rows (ended_lines text) ≡ false = not_true (is_table Rows (ended_lines text)) (λ all.
-      let table = subst (IsTable Rows) front ((table_told Rows (ended_lines text)).0 all) in
-      let fits = (table_told Rows (way.done ++ line ∷ [])).1 (table_front (way.done ++ line ∷ []) (ended_lines rest) table) in
-      true≢false (sym fits ∙ ap (λ (rows : List (List ℕ)). is_table Rows (rows ++ line ∷ [])) (sym (rows_now first now way.done way.gaz)) ∙ sym unfit)) in
+    let table = subst (IsTable Rows) front ((table_told Rows (ended_lines text)).0 all) in
+    let fits = (table_told Rows (way.done ++ line ∷ [])).1 (table_front (way.done ++ line ∷ []) (ended_lines rest) table) in
+    true≢false (sym fits ∙ ap (λ (rows : List (List ℕ)). is_table Rows (rows ++ line ∷ [])) (sym (rows_now first now way.done way.gaz)) ∙ sym unfit)) in
     and_false (is_whole text) ∙ ap (λ (b : Bool). is_whole text && b) (sym none)
 
 -- at the end

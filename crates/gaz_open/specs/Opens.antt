@@ -1,18 +1,18 @@
 -- What an opening finds, and what it leaves.
-use Rattle.std.specs.Prelude.{◌≡◌, ◌⊎◌, ◌<◌, ◌≤◌, ℕ, true, false, List, length, Some, None, Result, Ok, Err}
+use Rattle.std.specs.Prelude.{◌≡◌, ◌⊎◌, ◌<◌, ◌≤◌, ℕ, true, false, List, length, Option, Some, None, Result, Err}
 use Rattle.gaz_outside.specs.declared.station.Area.{Area}
 use Rattle.gaz_outside.specs.declared.station.Area.TheVariants as area
 use Rattle.gaz_outside.specs.Outside.{RisesOnce}
-use Rattle.gaz_outside.specs.Station.{StationView}
-use Rattle.gaz_redo.specs.Content.{is_open}
+use Rattle.gaz_outside.specs.Station.{StationView, pieces}
+use Rattle.gaz_redo.specs.Content.{Contents, content, is_log, is_open}
 use Rattle.gaz_redo.specs.Form.{IsInForm}
 use Rattle.gaz_redo.specs.Recovered.{AllStable}
+use Rattle.gaz_page.specs.declared.root.PlainRoot.{PlainRoot}
 use Rattle.gaz_page.specs.Root.{root_in}
 use Rattle.gaz_open.specs.declared.find.Found.{Found}
 use Rattle.gaz_open.specs.declared.find.Found.TheVariants.{Empty, Named, NotARoot}
 use Rattle.gaz_open.specs.declared.fault.OpenFault.{OpenFault}
 use Rattle.gaz_open.specs.declared.fault.OpenFault.TheVariants.{Station}
-use Rattle.gaz_open.specs.Content.{mirror_in}
 
 -- The gate is open over a log that isn't in form.
 abbrev pub HasNoLog : (Area → List ℕ) → Type 0
@@ -22,11 +22,25 @@ HasNoLog areas = (is_open (areas area.Mark) ≡ true) × (IsInForm areas → ⊥
 abbrev pub HasLog : (Area → List ℕ) → Type 0
 HasLog areas = (is_open (areas area.Mark) ≡ false) ⊎ IsInForm areas
 
--- The gate is closed, nothing is pending, and the gazetteer is that of before.
+-- The gate is closed, nothing is pending, and Root, Left and Right have the content of before.
 pub record IsSettled (old new : StationView) : Type 0 where
   pub closed : is_open (new.bytes area.Mark) ≡ false
   pub stable : AllStable new
-  pub content : mirror_in new.bytes ≡ mirror_in old.bytes
+  pub content : content new.bytes ≡ content old.bytes
+
+-- Nothing is to be redone: the gate is closed, or the log isn't in form.
+abbrev pub NothingToRedo : (Area → List ℕ) → Type 0
+NothingToRedo areas = (is_open (areas area.Mark) ≡ false) ⊎ (is_log areas ≡ false)
+
+-- how many pieces of 4,096 bytes the text has that a root page names
+abbrev pub text_pieces : Option PlainRoot → ℕ
+text_pieces None = 0
+text_pieces (Some root) = pieces root.length
+
+-- how many pieces the text of a content has: none where Root is no root page
+abbrev pub content_pieces : Option Contents → ℕ
+content_pieces None = 0
+content_pieces (Some c) = text_pieces (root_in c.root)
 
 -- what Root says
 abbrev pub Finds : Found → List ℕ → Type 0

@@ -1,15 +1,16 @@
 //! The opening of a mirror.
-ghost use Rattle.std.specs.Prelude.{◌≡◌, IsTrue, IfOk, IfErr, IsErr, Some, None};
+ghost use Rattle.std.specs.Prelude.{◌≡◌, ◌≤◌, ◌+◌, ◌*◌, ℕ, IsTrue, IfOk, IfErr, IsErr, Some, None};
 ghost use Rattle.gaz_outside.specs.declared.station.Area.TheVariants.{Root};
-ghost use Rattle.gaz_outside.specs.Station.{Confined, LeavesOnly};
+ghost use Rattle.gaz_outside.specs.Station.{Confined, Counts, LeavesOnly};
 ghost use Rattle.gaz_plain.specs.Gazetteer.{Gazetteer};
-ghost use Rattle.gaz_redo.specs.Content.{three};
+ghost use Rattle.gaz_redo.specs.Content.{content, three};
 ghost use Rattle.gaz_redo.specs.Slots.{SameBytes};
-ghost use Rattle.gaz_redo.specs.Recovered.{AllStable, OnlyRise};
+ghost use Rattle.gaz_redo.specs.Recovered.{AllStable, OnlyRise, SlotsToRedo};
+ghost use Rattle.gaz_page.specs.Root.{root_in};
 ghost use Rattle.gaz_open.specs.Content.{gaz_in, mirror_in};
 ghost use Rattle.gaz_open.specs.Holds.{AllHold, HasNone, IsStill};
 ghost use Rattle.gaz_open.specs.Fits.{Fits, Names};
-ghost use Rattle.gaz_open.specs.Opens.{HasLog, HasNoLog, FailsOnce};
+ghost use Rattle.gaz_open.specs.Opens.{HasLog, HasNoLog, NothingToRedo, FailsOnce, text_pieces, content_pieces};
 
 use crate::find::{Found, find_root};
 use crate::parse::read_gazetteer;
@@ -35,6 +36,7 @@ fn read_mirror<T: Station>(alloc: Global, station: &mut T) -> Result<PlainMirror
     ensures none { IfErr result (λ why. IsTrue (T.view station.old).is_told → (place : _) → why ≡ OpenFault.NotAMirror place → gaz_in (three (T.view station.old).bytes) ≡ None) }
     ensures place { IfErr result (λ why. why ≡ OpenFault.NotAMirror Place.Log → ⊥) }
     ensures stays { IsTrue (T.view station.old).is_told → Confined SameBytes (T.view station.old) (T.view station.new) }
+    ensures costs { IsTrue (T.view station.old).is_told → Counts (1 + text_pieces (root_in ((T.view station.old).bytes Root))) 0 (T.view station.old) (T.view station.new) }
     ensures counts { OnlyRise (T.view station.old) (T.view station.new) }
     ensures cause { FailsOnce (T.view station.old).faults (T.view station.new).faults result }
 {
@@ -86,6 +88,13 @@ pub fn open_plain<T: Station>(alloc: Global, station: &mut T) -> Result<PlainMir
     ensures one { IfOk result (λ mirror. IsTrue (T.view station.old).is_told → (gaz : Gazetteer) → AllHold (T.view station.old) gaz → mirror.gaz ≡ gaz) }
     ensures nowhere { IfErr result (λ why. IsTrue (T.view station.old).is_told → (place : _) → why ≡ OpenFault.NotAMirror place → HasNone (T.view station.old)) }
     ensures undefined { IsTrue (T.view station.old).is_told → mirror_in (T.view station.old).bytes ≡ None → IsErr result }
+
+    // In pieces of 4,096 bytes: it reads at most eight for each slot to redo and eight more, one for the root page, and those
+    // of the text that this page names. It writes at most the slots and the gate, and nothing where nothing is to be redone.
+    ensures reads { IsTrue (T.view station.old).is_told → (slots : ℕ) → SlotsToRedo (T.view station.old) slots
+        → (T.view station.new).reads ≤ (T.view station.old).reads + 8 * (slots + 1) + (1 + content_pieces (content (T.view station.old).bytes)) }
+    ensures writes { IsTrue (T.view station.old).is_told → (slots : ℕ) → SlotsToRedo (T.view station.old) slots → (T.view station.new).writes ≤ (T.view station.old).writes + slots + 1 }
+    ensures unwritten { IsTrue (T.view station.old).is_told → NothingToRedo (T.view station.old).bytes → (T.view station.new).writes ≡ (T.view station.old).writes }
     ensures counts { OnlyRise (T.view station.old) (T.view station.new) }
     ensures cause { FailsOnce (T.view station.old).faults (T.view station.new).faults result }
 {

@@ -1,12 +1,12 @@
 //! The first half of an opening: the areas are synced, and a stop is recovered from.
-ghost use Rattle.std.specs.Prelude.{◌≡◌, ◌≤◌, ◌+◌, ℕ, true, false, IsTrue, IfOk, OnOk};
+ghost use Rattle.std.specs.Prelude.{◌≡◌, ◌≤◌, ◌+◌, ◌*◌, ℕ, true, false, IsTrue, IfOk, OnOk};
 ghost use Rattle.gaz_outside.specs.Outside.{HasCause};
 ghost use Rattle.gaz_outside.specs.Station.{Confined, Counts, LeavesOnly};
 ghost use Rattle.gaz_plain.specs.Gazetteer.{Gazetteer};
 ghost use Rattle.gaz_redo.specs.Slots.{SameBytes};
-ghost use Rattle.gaz_redo.specs.Recovered.{AllStable, OnlyRise};
+ghost use Rattle.gaz_redo.specs.Recovered.{AllStable, OnlyRise, SlotsToRedo};
 ghost use Rattle.gaz_open.specs.Holds.{AllHold, IsStill};
-ghost use Rattle.gaz_open.specs.Opens.{HasLog, HasNoLog, IsSettled};
+ghost use Rattle.gaz_open.specs.Opens.{HasLog, HasNoLog, IsSettled, NothingToRedo};
 
 use gaz_outside::{Area, Failed, Station};
 use gaz_redo::{Recovered, RedoFault, recover};
@@ -35,6 +35,9 @@ pub(crate) fn settle<T: Station>(station: &mut T) -> Result<bool, Failed>
     ensures moments { IsTrue (T.view station.old).is_told → (gaz : Gazetteer) → AllHold (T.view station.old) gaz
         → LeavesOnly (T.view station.old) (T.view station.new) (IsStill gaz (T.view station.old)) }
     ensures printed { IsTrue (T.view station.old).is_told → (T.view station.new).printed ≡ (T.view station.old).printed }
+    ensures reads { IsTrue (T.view station.old).is_told → (slots : ℕ) → SlotsToRedo (T.view station.old) slots → (T.view station.new).reads ≤ (T.view station.old).reads + 8 * (slots + 1) }
+    ensures writes { IsTrue (T.view station.old).is_told → (slots : ℕ) → SlotsToRedo (T.view station.old) slots → (T.view station.new).writes ≤ (T.view station.old).writes + slots + 1 }
+    ensures unwritten { IsTrue (T.view station.old).is_told → NothingToRedo (T.view station.old).bytes → (T.view station.new).writes ≡ (T.view station.old).writes }
     ensures counts { OnlyRise (T.view station.old) (T.view station.new) }
     ensures cause { HasCause (T.view station.old).faults (T.view station.new).faults result }
 {

@@ -1,7 +1,7 @@
-use Rattle.std.proofs.Common.{◌≡◌, sym, Some, None, ◌∙◌}
+use Rattle.std.proofs.Common.{◌≡◌, arith, sym, Some, None, ◌∙◌}
 use Rattle.gaz_redo.proofs.Steps.{still}
 use Rattle.gaz_plain.specs.Gazetteer.{Gazetteer}
-use Rattle.gaz_open.proofs.Opened.{no_log_no_gaz, while_read, fits_opened, read_settled, one_opened, has_none, holds_then}
+use Rattle.gaz_open.proofs.Opened.{no_log_no_gaz, while_read, fits_opened, read_settled, one_opened, has_none, holds_then, all_stable, reads_in_all, writes_in_all}
 use Rattle.gaz_open.proofs.open.open_plain.Goals as goal
 
 none_opened : {A : Type 0} (gaz : Gazetteer) → None ≡ Some gaz → A
@@ -106,3 +106,58 @@ returns-in-Ok-clause-now g c told =
     let settled = c.in-Ok-true.ensures.settled told c.in-Ok-true.field-0-test in
     let run = c.read_mirror.ensures.stays told1 in
     holds_then v0 v1 v2 settled run c.in-Ok.mirror.gaz (read_settled v0 v1 v2 settled run ∙ c.in-Ok.ensures.read told1)
+
+pub returns-in-Ok-false-clause-reads : goal.returns-in-Ok-false-clause-reads
+returns-in-Ok-false-clause-reads g c told slots redo = let most = c.settle.ensures.reads told slots redo in omega (arith, most)
+
+pub returns-in-Err-clause-reads : goal.returns-in-Err-clause-reads
+returns-in-Err-clause-reads g c told slots redo = let most = c.settle.ensures.reads told slots redo in omega (arith, most)
+
+pub returns-in-Ok-clause-reads : goal.returns-in-Ok-clause-reads
+returns-in-Ok-clause-reads g c told slots redo =
+    let v0 = g.T.Station.view c.args.station.now in
+    let v1 = g.T.Station.view c.settle.new.station in
+    let v2 = g.T.Station.view c.read_mirror.new.station in
+    let told1 = still v0.is_told v1.is_told c.settle.ensures.counts.told told in
+    let settled = c.in-Ok-true.ensures.settled told c.in-Ok-true.field-0-test in
+    let run = c.read_mirror.ensures.stays told1 in
+    reads_in_all v0 v1 v2 settled run slots (c.settle.ensures.reads told slots redo) (c.read_mirror.ensures.costs told1)
+
+pub returns-in-Ok-clause-writes : goal.returns-in-Ok-clause-writes
+returns-in-Ok-clause-writes g c told slots redo =
+    let v0 = g.T.Station.view c.args.station.now in
+    let v1 = g.T.Station.view c.settle.new.station in
+    let v2 = g.T.Station.view c.read_mirror.new.station in
+    let told1 = still v0.is_told v1.is_told c.settle.ensures.counts.told told in
+    let settled = c.in-Ok-true.ensures.settled told c.in-Ok-true.field-0-test in
+    let run = c.read_mirror.ensures.stays told1 in
+    writes_in_all v0 v1 v2 settled run slots _ (c.settle.ensures.writes told slots redo) (c.read_mirror.ensures.costs told1)
+
+pub returns-in-Err-read_mirror-clause-reads : goal.returns-in-Err-read_mirror-clause-reads
+returns-in-Err-read_mirror-clause-reads g c told slots redo =
+    let v0 = g.T.Station.view c.args.station.now in
+    let v1 = g.T.Station.view c.settle.new.station in
+    let v2 = g.T.Station.view c.read_mirror.new.station in
+    let told1 = still v0.is_told v1.is_told c.settle.ensures.counts.told told in
+    let settled = c.in-Ok-true.ensures.settled told c.in-Ok-true.field-0-test in
+    let run = c.read_mirror.ensures.stays told1 in
+    reads_in_all v0 v1 v2 settled run slots (c.settle.ensures.reads told slots redo) (c.read_mirror.ensures.costs told1)
+
+pub returns-in-Err-read_mirror-clause-writes : goal.returns-in-Err-read_mirror-clause-writes
+returns-in-Err-read_mirror-clause-writes g c told slots redo =
+    let v0 = g.T.Station.view c.args.station.now in
+    let v1 = g.T.Station.view c.settle.new.station in
+    let v2 = g.T.Station.view c.read_mirror.new.station in
+    let told1 = still v0.is_told v1.is_told c.settle.ensures.counts.told told in
+    let settled = c.in-Ok-true.ensures.settled told c.in-Ok-true.field-0-test in
+    let run = c.read_mirror.ensures.stays told1 in
+    writes_in_all v0 v1 v2 settled run slots _ (c.settle.ensures.writes told slots redo) (c.read_mirror.ensures.costs told1)
+
+pub returns-in-Ok-clause-stable : goal.returns-in-Ok-clause-stable
+returns-in-Ok-clause-stable g c told =
+    let v0 = g.T.Station.view c.args.station.now in
+    let v1 = g.T.Station.view c.settle.new.station in
+    let v2 = g.T.Station.view c.read_mirror.new.station in
+    let told1 = still v0.is_told v1.is_told c.settle.ensures.counts.told told in
+    let settled = c.in-Ok-true.ensures.settled told c.in-Ok-true.field-0-test in
+    all_stable v0 v1 v2 settled (c.read_mirror.ensures.stays told1)

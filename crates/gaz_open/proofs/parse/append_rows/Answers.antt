@@ -1,4 +1,4 @@
-use Rattle.std.proofs.Common.{◌≡◌, ◌∙◌, sym, take, length}
+use Rattle.std.proofs.Common.{◌∙◌, sym}
 use Rattle.gaz_open.proofs.Parsed.{test_from_line, split_cuts, same_way, goes_on, stops, ends, all_read, line_unless_found}
 use Rattle.gaz_open.proofs.parse.append_rows.Goals as goal
 

@@ -1,8 +1,8 @@
-use Rattle.std.proofs.Common.{inr, subst}
+use Rattle.std.proofs.Common.{arith, inr, subst}
 use Rattle.gaz_redo.specs.Recovered.{Tells, Means}
 use Rattle.gaz_redo.proofs.Steps.{still}
 use Rattle.gaz_open.specs.Opens.{HasNoLog}
-use Rattle.gaz_open.proofs.Opened.{while_synced, while_recovered, settled_redone, same_form}
+use Rattle.gaz_open.proofs.Opened.{while_synced, while_recovered, settled_redone, same_form, same_slots}
 use Rattle.gaz_open.proofs.settle.settle.Goals as goal
 
 pub returns-in_err-sync_all-clause-moments : goal.returns-in_err-sync_all-clause-moments
@@ -69,3 +69,48 @@ returns-in-NotALog-clause-no_log g c told is_false =
     let told1 = still v0.is_told v1.is_told c.sync_all.ensures.counts.told told in
     let means = subst (λ r. Means v1 r) c.in-NotALog.is (c.in-Ok.ensures.means told1) in
     subst HasNoLog (λ i a. (c.sync_all.ensures.stays told).bytes a i) means
+
+pub returns-in-Err-Failed-clause-reads : goal.returns-in-Err-Failed-clause-reads
+returns-in-Err-Failed-clause-reads g c told slots redo =
+    let v0 = g.T.Station.view c.args.station.now in
+    let v1 = g.T.Station.view c.sync_all.new.station in
+    let told1 = still v0.is_told v1.is_told c.sync_all.ensures.counts.told told in
+    let synced = c.sync_all.ensures.counts.reads in
+    let redone = c.recover.ensures.reads told1 slots (same_slots v0 v1 (c.sync_all.ensures.stays told) slots redo) in
+    omega (arith, synced, redone)
+
+pub returns-in-Err-Failed-clause-writes : goal.returns-in-Err-Failed-clause-writes
+returns-in-Err-Failed-clause-writes g c told slots redo =
+    let v0 = g.T.Station.view c.args.station.now in
+    let v1 = g.T.Station.view c.sync_all.new.station in
+    let told1 = still v0.is_told v1.is_told c.sync_all.ensures.counts.told told in
+    let synced = c.sync_all.ensures.counts.writes in
+    let redone = c.recover.ensures.writes told1 slots (same_slots v0 v1 (c.sync_all.ensures.stays told) slots redo) in
+    omega (arith, synced, redone)
+
+pub returns-in-Clean-clause-reads : goal.returns-in-Clean-clause-reads
+returns-in-Clean-clause-reads g c told slots redo =
+    let v0 = g.T.Station.view c.args.station.now in
+    let v1 = g.T.Station.view c.sync_all.new.station in
+    let told1 = still v0.is_told v1.is_told c.sync_all.ensures.counts.told told in
+    let synced = c.sync_all.ensures.counts.reads in
+    let redone = c.recover.ensures.reads told1 slots (same_slots v0 v1 (c.sync_all.ensures.stays told) slots redo) in
+    omega (arith, synced, redone)
+
+pub returns-in-Redone-clause-reads : goal.returns-in-Redone-clause-reads
+returns-in-Redone-clause-reads g c told slots redo =
+    let v0 = g.T.Station.view c.args.station.now in
+    let v1 = g.T.Station.view c.sync_all.new.station in
+    let told1 = still v0.is_told v1.is_told c.sync_all.ensures.counts.told told in
+    let synced = c.sync_all.ensures.counts.reads in
+    let redone = c.recover.ensures.reads told1 slots (same_slots v0 v1 (c.sync_all.ensures.stays told) slots redo) in
+    omega (arith, synced, redone)
+
+pub returns-in-Redone-clause-writes : goal.returns-in-Redone-clause-writes
+returns-in-Redone-clause-writes g c told slots redo =
+    let v0 = g.T.Station.view c.args.station.now in
+    let v1 = g.T.Station.view c.sync_all.new.station in
+    let told1 = still v0.is_told v1.is_told c.sync_all.ensures.counts.told told in
+    let synced = c.sync_all.ensures.counts.writes in
+    let redone = c.recover.ensures.writes told1 slots (same_slots v0 v1 (c.sync_all.ensures.stays told) slots redo) in
+    omega (arith, synced, redone)
