@@ -1,3 +1,4 @@
 pub mod Back
 pub mod Opened
 pub mod Parsed
+mod Examples
