@@ -12,6 +12,8 @@ mod open;
 mod parse;
 mod settle;
 mod side;
+#[cfg(test)]
+mod tests;
 mod text;
 
 pub use fault::{OpenFault, Place};
