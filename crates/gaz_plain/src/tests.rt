@@ -1,10 +1,10 @@
 //! Worked steps, in ample memory.
-ghost use Rattle.std.specs.Prelude.{◌≡◌};
-ghost use Rattle.gaz_plain.specs.Gazetteer.{empty, dated};
+ghost use Rattle.std.specs.Prelude.{◌≡◌, IsTrue};
+ghost use Rattle.gaz_plain.specs.Gazetteer.{empty, dated, is_one_line};
 
 use crate::{PlainFault, PlainGaz, check_delete};
-use gaz_num::{Day, Kind, Reason};
-use std::alloc::Global;
+use gaz_num::{Day, Kind, Reason, Table};
+use std::alloc::{AllocError, Global};
 use std::test::Fail;
 
 const A1: &[u8] = b"1\tA\t\t\t0\t0\tP\tPPL\tAA\t\t\t\t\t\t1\t\t\t\t2024-02-01";
@@ -97,6 +97,57 @@ fn a_step_on_a_copy_leaves_the_first(rt: HostRuntime) -> Result<(), Fail> {
     copied.step(Kind::Row, X2)?;
     assert_eq!(rt; copied.get(2), Some(X2));
     assert_eq!(rt; gaz.get(2), Some(B2));
+    Ok(())
+}
+
+#[test]
+fn lines_stand_in_the_order_of_their_ids(rt: HostRuntime) -> Result<(), Fail> {
+    let mut gaz = first_day(rt.alloc());
+    assert_eq!(rt; gaz.count(Table::Rows), 0);
+    assert_eq!(rt; gaz.line(Table::Rows, 0), None);
+    gaz.step(Kind::Row, C3)?;
+    gaz.step(Kind::Row, A1)?;
+    gaz.step(Kind::Row, B2)?;
+    assert_eq!(rt; gaz.count(Table::Rows), 3);
+    gaz.step(Kind::RowDelete, b"1")?;
+    gaz.step(Kind::Row, X2)?;
+    assert_eq!(rt; gaz.count(Table::Rows), 2);
+    for (n, row) in [(0, Some(X2)), (1, Some(C3)), (2, None), (u32::MAX, None)] {
+        assert_eq!(rt; gaz.line(Table::Rows, n), row, "{n}");
+    }
+    Ok(())
+}
+
+/// Appends a line if there is a date.
+fn append_row(gaz: &mut PlainGaz, line: &[u8]) -> Result<Option<bool>, AllocError>
+    requires { IsTrue (is_one_line line.now) }
+{
+    if gaz.date().is_none() {
+        return Ok(None);
+    }
+    Ok(Some(gaz.append(Table::Rows, line)?))
+}
+
+#[test]
+fn a_line_is_appended_behind_all_others_alone(rt: HostRuntime) -> Result<(), Fail> {
+    let mut gaz = first_day(rt.alloc());
+    for (line, fits) in [
+        (b"1\tA".as_slice(), false),
+        (A1, true),
+        (A1, false),
+        (C3, true),
+        (B2, false),
+        (b"4", false),
+        (b"", false),
+    ] {
+        assert_eq!(rt; append_row(&mut gaz, line)?, Some(fits));
+    }
+    assert_eq!(rt; gaz.count(Table::Rows), 2);
+    for (n, row) in [(0, Some(A1)), (1, Some(C3)), (2, None)] {
+        assert_eq!(rt; gaz.line(Table::Rows, n), row, "{n}");
+    }
+    assert_eq!(rt; gaz.get(3), Some(C3));
+    assert_eq!(rt; gaz.get(2), None);
     Ok(())
 }
 
