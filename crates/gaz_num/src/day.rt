@@ -38,6 +38,13 @@ impl Day {
         self.number
     }
 
+    /// Its number is at most that of 9999-12-31. To call it is to know it.
+    pub fn is_real(self)
+        ensures { self ≤ last_day }
+    {
+        let _number = self.number;
+    }
+
     /// The day with that number, up to 3,652,424, which is 9999-12-31.
     pub fn from_number(number: u32) -> Option<Day>
         ensures { result ≡ some_if (nat_le number last_day) number }

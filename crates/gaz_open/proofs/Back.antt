@@ -137,12 +137,12 @@ cut_back side date gaz dated =
     λ i. record { date = sym dated i; rows = rows i; alternates = alternates i; links = links i; countries = countries i; codes = codes i }
 
 -- so far a gazetteer has rows alone
-all_rows : (gaz : Gazetteer) → IsGazetteer gaz → all_lines gaz ≡ gaz.rows
+pub all_rows : (gaz : Gazetteer) → IsGazetteer gaz → all_lines gaz ≡ gaz.rows
 all_rows gaz is =
     ap all_lines is.no_more
     ∙ append-nil (gaz.rows ++ [] ++ [] ++ []) ∙ append-nil (gaz.rows ++ [] ++ []) ∙ append-nil (gaz.rows ++ []) ∙ append-nil gaz.rows
 
-row_lines : (gaz : Gazetteer) → IsGazetteer gaz → AllByRecursion (IsLine Row) gaz.rows
+pub row_lines : (gaz : Gazetteer) → IsGazetteer gaz → AllByRecursion (IsLine Row) gaz.rows
 row_lines gaz is = let table : IsTable Rows gaz.rows = is.tables Rows in recursion_from_All (IsLine Row) gaz.rows table.each
 
 pub are_lines : (gaz : Gazetteer) → IsGazetteer gaz → AllByRecursion cut.IsLine (all_lines gaz)
@@ -162,7 +162,7 @@ line_fits line h =
     let test = first_passes (nat_le (length line) line_limit) (first_failing ((_, is_utf8 line) ∷ tests Row line)) h in
     grind (arith, nat_tests)
 
-length-lined : (rows : List (List ℕ)) → AllByRecursion (IsLine Row) rows → length (lined rows) ≤ 65536 * length rows
+pub length-lined : (rows : List (List ℕ)) → AllByRecursion (IsLine Row) rows → length (lined rows) ≤ 65536 * length rows
 length-lined [] are = omega arith
 length-lined (row ∷ rows) are =
     let first = line_fits row are.0.accepted in
