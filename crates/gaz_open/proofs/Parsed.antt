@@ -191,7 +191,7 @@ module _ (root : PlainRoot) (text : List ℕ) (fits : fits_root root text ≡ tr
       let same : (length (ended_lines text) == total root.counts) ≡ true = and_second (is_whole text) (length (ended_lines text) == total root.counts) (and_first (is_whole text && (length (ended_lines text) == total root.counts)) (is_dated_gazetteer (cut_by root (ended_lines text))) fits) in
       grind (arith, nat_tests)
 
-  gazetteer_if : IsGazetteer (cut_by root (ended_lines text))
+  pub gazetteer_if : IsGazetteer (cut_by root (ended_lines text))
   gazetteer_if = ((gazetteer_told (cut_by root (ended_lines text))).0 (and_second (is_whole text && (length (ended_lines text) == total root.counts)) (is_dated_gazetteer (cut_by root (ended_lines text))) fits)).1
 
   pub only_if : rows_only root.counts ≡ true

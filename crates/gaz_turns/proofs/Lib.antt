@@ -1,0 +1,7 @@
+pub mod Counted
+pub mod Marks
+pub mod Replied
+pub mod Stored
+pub mod Tallies
+pub mod Underway
+pub mod Follow

@@ -1,0 +1,393 @@
+-- A run that is under way, and one request more.
+use Rattle.std.proofs.Common.{◌≡◌, ◌≢◌, ◌⊎◌, inl, inr, ⊎_elim, ℕ, zero, suc, ◌+◌, ◌≤◌, Bool, true, false, cond, true≢false, List, [], ◌∷◌, ◌++◌, take, drop, length, refl, sym, ◌∙◌, ap, arith, subst, append_assoc, append-nil, Some, length-append}
+use Rattle.std.proofs.lemmas.List.{take-append-le, take_all}
+use Rattle.std.proofs.Math.Seq.{take-append-add}
+use Rattle.std.proofs.Transfers.{drop-appended}
+use Rattle.std.specs.Prelude.{map, slice_get, Result}
+use Rattle.std.specs.List.{AllByRecursion}
+use Rattle.gaz_outside.specs.declared.station.Area.{Area}
+use Rattle.gaz_outside.specs.Station.{StationView, Outcome, Leaves, LeavesOnly}
+use Rattle.gaz_outside.proofs.Runs.{begins, goes_far, leaves_weaker}
+use Rattle.gaz_plain.specs.Gazetteer.{Gazetteer}
+use Rattle.gaz_plain.specs.Load.{Files}
+use Rattle.gaz_reply.specs.Reply.{acks, reply_text, is_change}
+use Rattle.gaz_open.specs.Holds.{AllHold, IsStill}
+use Rattle.gaz_turns.specs.Head.{Course, IsFront, HoldsAcked, IsStop, IsStored}
+use Rattle.gaz_turns.specs.Turns.{State, Turn, Answer, MayBe, IsLegal, answer_at, answer_by, replies, gazetteers, state_after, after}
+use Rattle.gaz_turns.specs.Steps.{IsBeforeOrAfter, IsDone, OneStep, RunKeeps}
+use Rattle.gaz_turns.proofs.Stored.{read_stored}
+use Rattle.gaz_turns.proofs.Replied.{IsMarked, answer_marked}
+use Rattle.gaz_turns.proofs.Tallies.{Tally, no_turn, one_turn, replies_on, replies_more, gazetteers_on, front_acks, legal_more, asked_more, state_more, same_gaz, if_change, get_at, get_more}
+
+abbrev course_of : State → Files → List Turn → Course
+course_of first files turns = record { first = first; files = files; turns = turns }
+
+-- These lines were answered, and this is the state now.
+pub record IsUnderWay (files : Files) (first : State) (entry now : StationView) (state : State) (answered : List (List ℕ)) : Type 0 where
+  pub turns : List Turn
+  pub asked : map (λ turn. turn.line) turns ≡ answered
+  pub legal : IsLegal first files turns
+  pub ends : state_after first files turns ≡ state
+  pub printed : now.printed ≡ entry.printed ++ replies first files turns
+  pub stops : LeavesOnly entry now (IsStop (record { first = first; files = files; turns = turns }) entry)
+  pub holds : AllHold now state.gaz
+  pub tally : Tally first files turns state
+
+-- an outcome of now
+abbrev as_it_is : StationView → Outcome
+as_it_is v = record { areas = v.bytes; text = v.printed }
+
+pub stored_now : (v : StationView) (gaz : Gazetteer) → ((a : Area) → v.may_leave a (v.bytes a)) → AllHold v gaz → AllByRecursion IsStored gaz.rows
+stored_now v gaz stay holds =
+    let now : Leaves v (as_it_is v) = record { areas = stay; text = refl } in
+    read_stored v.bytes gaz (holds (as_it_is v) now)
+
+acks_of : (first : State) (files : Files) (turns : List Turn) (state : State) (tally : Tally first files turns state) → acks (replies first files turns) ≡ length tally.earlier
+acks_of first files turns state tally =
+    let all = tally.acked [] in
+    let none : acks [] ≡ 0 = refl in
+    ap acks (sym (append-nil (replies first files turns))) ∙ all ∙ sum_none (length tally.earlier) (acks []) none
+  where
+    sum_none : (a b : ℕ) → b ≡ 0 → a + b ≡ a
+    sum_none a b is = omega (arith, is)
+
+-- a front of a front, with more behind
+front_more : (text xs ys : List ℕ) → IsFront text xs → IsFront text (xs ++ ys)
+front_more text xs ys front =
+    let sum = length-append xs ys in
+    (front.0, omega (arith, front.1, sum), front.2 ∙ sym (take-append-le front.0 xs ys front.1))
+
+front_into : (xs ys : List ℕ) (n : ℕ) → n ≤ length ys → IsFront (xs ++ take n ys) (xs ++ ys)
+front_into xs ys n le =
+    let sum = length-append xs ys in
+    (length xs + n, omega (arith, le, sum), sym (take-append-add xs ys n))
+
+pub front_whole : (xs : List ℕ) → IsFront xs xs
+front_whole xs = (length xs, omega arith, sym (take_all (length xs) xs (omega arith)))
+
+-- before the first request
+pub starts : (files : Files) (first : State) (v : StationView) → ((c : Outcome) → v.left_since v.moment c → Leaves v c) → AllHold v first.gaz → IsUnderWay files first v v first []
+starts files first v only holds = record {
+  turns = [];
+  asked = refl;
+  legal = tt;
+  ends = refl;
+  printed = sym (append-nil v.printed);
+  stops = begins v (IsStop (record { first = first; files = files; turns = [] }) v) (λ c left.
+      let leaves = only c left in
+      record {
+        text = [];
+        printed = leaves.text ∙ sym (append-nil v.printed);
+        front = (0, omega arith, refl);
+        holds = record { gaz = first.gaz; content = holds c leaves; one_of = inl refl };
+      });
+  holds = holds;
+  tally = no_turn first files;
+}
+
+module _ (first : State) (files : Files) (turns : List Turn) (turn : Turn) (state : State)
+    (ends : state_after first files turns ≡ state) (marked : IsMarked (answer_at state files turn).reply) (tally : Tally first files turns state) where
+  -- a stop stays one
+  stop_more : (entry : StationView) (c : Outcome) → IsStop (course_of first files turns) entry c → IsStop (course_of first files (turns ++ turn ∷ [])) entry c
+  stop_more entry c stop =
+      let on = gazetteers_on first files turns turn state ends marked in
+      let more : (k : ℕ) → after k first files turns ≡ Some stop.holds.gaz → after k first files (turns ++ turn ∷ []) ≡ Some stop.holds.gaz =
+      λ k is. ap (λ (l : List Gazetteer). slice_get l k) on ∙ get_more (gazetteers first files turns) (if_change (answer_at state files turn)) k stop.holds.gaz is in
+      record {
+        text = stop.text;
+        printed = stop.printed;
+        front = subst (λ (l : List ℕ). IsFront stop.text l) (sym (replies_on first files turns turn state ends marked))
+            (front_more stop.text (replies first files turns) (reply_text (answer_at state files turn).reply) stop.front);
+        holds = record {
+          gaz = stop.holds.gaz;
+          content = stop.holds.content;
+          one_of = ⊎_elim (λ is. inl (more (acks stop.text) is)) (λ is. inr (more (suc (acks stop.text)) is)) stop.holds.one_of;
+        };
+      }
+
+  -- the gazetteer before the request, in the longer run
+  old_at : after (length tally.earlier) first files (turns ++ turn ∷ []) ≡ Some state.gaz
+  old_at =
+      ap (λ (l : List Gazetteer). slice_get l (length tally.earlier)) (gazetteers_on first files turns turn state ends marked)
+      ∙ get_more (gazetteers first files turns) (if_change (answer_at state files turn)) (length tally.earlier) state.gaz
+      (ap (λ (l : List Gazetteer). slice_get l (length tally.earlier)) tally.all ∙ get_at tally.earlier state.gaz [])
+
+  -- the one after a change
+  new_at : is_change (answer_at state files turn).reply ≡ true → after (suc (length tally.earlier)) first files (turns ++ turn ∷ []) ≡ Some (answer_at state files turn).state.gaz
+  new_at change =
+      let a = answer_at state files turn in
+      let xs = tally.earlier ++ state.gaz ∷ [] in
+      let count : length xs ≡ suc (length tally.earlier) = length_one tally.earlier state.gaz in
+      let is : if_change a ≡ a.state.gaz ∷ [] = ap (λ (b : Bool). cond b (a.state.gaz ∷ []) []) change in
+      ap (λ (l : List Gazetteer). slice_get l (suc (length tally.earlier))) (gazetteers_on first files turns turn state ends marked ∙ ap (λ (l : List Gazetteer). l ++ if_change a) tally.all ∙ ap (λ (l : List Gazetteer). xs ++ l) is)
+      ∙ ap (λ (k : ℕ). slice_get (xs ++ a.state.gaz ∷ []) k) (sym count) ∙ get_at xs a.state.gaz []
+    where
+      length_one : (xs : List Gazetteer) (x : Gazetteer) → length (xs ++ x ∷ []) ≡ suc (length xs)
+      length_one [] x = refl
+      length_one (y ∷ xs) x = ap suc (length_one xs x)
+
+  -- with a front of the reply printed, the new gazetteer is that after what is acknowledged, or after one more
+  new_one_of : (n : ℕ) (b : Bool) → is_change (answer_at state files turn).reply ≡ b
+      → (after (acks (replies first files turns ++ take n (reply_text (answer_at state files turn).reply))) first files (turns ++ turn ∷ []) ≡ Some (answer_at state files turn).state.gaz)
+      ⊎ (after (suc (acks (replies first files turns ++ take n (reply_text (answer_at state files turn).reply)))) first files (turns ++ turn ∷ []) ≡ Some (answer_at state files turn).state.gaz)
+  new_one_of n false is =
+      let a = answer_at state files turn in
+      let t = take n (reply_text a.reply) in
+      let all = tally.acked t in
+      let few : acks t ≤ 0 = subst (λ (b : Bool). acks t ≤ cond b 1 0) is (front_acks first files turns turn state ends marked n) in
+      let count : acks (replies first files turns ++ t) ≡ length tally.earlier = omega (arith, all, few) in
+      inl (ap (λ (k : ℕ). after k first files (turns ++ turn ∷ [])) count ∙ old_at ∙ ap Some (sym (same_gaz state files turn is)))
+  new_one_of n true is =
+      let a = answer_at state files turn in
+      let t = take n (reply_text a.reply) in
+      let all = tally.acked t in
+      let few : acks t ≤ 1 = subst (λ (b : Bool). acks t ≤ cond b 1 0) is (front_acks first files turns turn state ends marked n) in
+      ⊎_elim
+      (λ none. let count : suc (acks (replies first files turns ++ t)) ≡ suc (length tally.earlier) = omega (arith, all, none) in
+      inr (ap (λ (k : ℕ). after k first files (turns ++ turn ∷ [])) count ∙ new_at is))
+      (λ one. let count : acks (replies first files turns ++ t) ≡ suc (length tally.earlier) = omega (arith, all, one) in
+      inl (ap (λ (k : ℕ). after k first files (turns ++ turn ∷ [])) count ∙ new_at is))
+      (none_or_one (acks t) few)
+    where
+      none_or_one : (k : ℕ) → k ≤ 1 → (k ≡ 0) ⊎ (k ≡ 1)
+      none_or_one zero le = inl refl
+      none_or_one (suc zero) le = inr refl
+      none_or_one (suc (suc k)) le = absurd (omega (arith, le))
+
+  -- a stop in the request is a stop of the longer run
+  pub stop_in : (entry mid : StationView) (c : Outcome) → mid.printed ≡ entry.printed ++ replies first files turns → IsBeforeOrAfter state (answer_at state files turn) mid c → IsStop (course_of first files (turns ++ turn ∷ [])) entry c
+  stop_in entry mid c printed either =
+      let a = answer_at state files turn in
+      let done = replies first files turns in
+      let reply = reply_text a.reply in
+      let whole = replies_on first files turns turn state ends marked in
+      ⊎_elim
+      (λ old. record {
+        text = done;
+        printed = old.1 ∙ printed;
+        front = subst (λ (l : List ℕ). IsFront done l) (sym whole) (front_more done done reply (front_whole done));
+        holds = record {
+          gaz = state.gaz;
+          content = old.0;
+          one_of = inl (ap (λ (k : ℕ). after k first files (turns ++ turn ∷ [])) (acks_of first files turns state tally) ∙ old_at);
+        };
+      })
+      (λ new. let n = new.1.0 in record {
+        text = done ++ take n reply;
+        printed = new.1.2 ∙ ap (λ (l : List ℕ). l ++ take n reply) printed ∙ append_assoc entry.printed done (take n reply);
+        front = subst (λ (l : List ℕ). IsFront (done ++ take n reply) l) (sym whole) (front_into done reply n new.1.1);
+        holds = record { gaz = a.state.gaz; content = new.0; one_of = new_one_of n (is_change a.reply) refl };
+      })
+      either
+
+-- two lists that end in one element each
+but_last : (xs ys : List Turn) (x y : Turn) → xs ++ x ∷ [] ≡ ys ++ y ∷ [] → xs ≡ ys
+but_last xs ys x y is = sym (all_but xs x) ∙ ap front is ∙ all_but ys y
+  where
+    front : List Turn → List Turn
+    front [] = []
+    front (t ∷ []) = []
+    front (t ∷ u ∷ ts) = t ∷ front (u ∷ ts)
+
+    all_but : (ts : List Turn) (t : Turn) → front (ts ++ t ∷ []) ≡ ts
+    all_but [] t = refl
+    all_but (u ∷ []) t = refl
+    all_but (u ∷ w ∷ ts) t = ap (λ (l : List Turn). u ∷ l) (all_but (w ∷ ts) t)
+
+-- what is printed after a failed request has the replies before it
+reply_front : (state : State) (a : Answer) (entry mid : StationView) (c : Outcome) (done text : List ℕ) → mid.printed ≡ entry.printed ++ done → c.text ≡ entry.printed ++ text → IsBeforeOrAfter state a mid c → IsFront done text
+reply_front state a entry mid c done text printed all either =
+    ⊎_elim
+    (λ old. front_as done text done (same (old.1 ∙ printed)) (front_whole done))
+    (λ new. front_as done text (done ++ take new.1.0 (reply_text a.reply))
+    (same (new.1.2 ∙ ap (λ (l : List ℕ). l ++ take new.1.0 (reply_text a.reply)) printed ∙ append_assoc entry.printed done (take new.1.0 (reply_text a.reply))))
+    (front_more done done (take new.1.0 (reply_text a.reply)) (front_whole done)))
+    either
+  where
+    same : {t : List ℕ} → c.text ≡ entry.printed ++ t → t ≡ text
+    same {t = t} is = sym (drop-appended entry.printed c.text t is) ∙ drop-appended entry.printed c.text text all
+
+    front_as : (xs ys zs : List ℕ) → zs ≡ ys → IsFront xs zs → IsFront xs ys
+    front_as xs ys zs is front = subst (λ (l : List ℕ). IsFront xs l) is front
+
+module _ (files : Files) (first : State) (entry mid new : StationView) (state : State) (answered : List (List ℕ)) (line : List ℕ) where
+  -- the turn that a step takes
+  pub turn_of : {A E : Type 0} (now : State) (result : Result A E) → OneStep files line state now mid new result → Turn
+  turn_of now result step = record { line = line; verdict = step.verdict }
+
+  -- the stops after one request more
+  pub stops_on : {A E : Type 0} (now : State) (result : Result A E) (run : IsUnderWay files first entry mid state answered) (step : OneStep files line state now mid new result)
+      → ((a : Area) → mid.may_leave a (mid.bytes a))
+      → LeavesOnly entry new (IsStop (record { first = first; files = files; turns = run.turns ++ (record { line = line; verdict = step.verdict }) ∷ [] }) entry)
+  stops_on now result run step stay =
+      let turn : Turn = record { line = line; verdict = step.verdict } in
+      let marked = answer_marked step.verdict state files line (stored_now mid state.gaz stay run.holds) in
+      goes_far entry mid new (IsStop (course_of first files (run.turns ++ turn ∷ [])) entry) (IsBeforeOrAfter state (answer_at state files turn) mid)
+      (leaves_weaker entry mid (IsStop (course_of first files run.turns) entry) (IsStop (course_of first files (run.turns ++ turn ∷ [])) entry)
+      (λ c stop. stop_more first files run.turns turn state run.ends marked run.tally entry c stop) run.stops)
+      step.moments
+      (λ c either. stop_in first files run.turns turn state run.ends marked run.tally entry mid c run.printed either)
+
+  pub legal_on : {A E : Type 0} (now : State) (result : Result A E) (run : IsUnderWay files first entry mid state answered) (step : OneStep files line state now mid new result)
+      → IsLegal first files (run.turns ++ (record { line = line; verdict = step.verdict }) ∷ [])
+  legal_on now result run step =
+      let turn : Turn = record { line = line; verdict = step.verdict } in
+      legal_more first files run.turns turn run.legal (subst (λ (s : State). MayBe turn.verdict s files turn.line) (sym run.ends) step.may)
+
+  -- one request more was answered
+  pub goes_on : {A E : Type 0} (now : State) (result : Result A E) (run : IsUnderWay files first entry mid state answered) (step : OneStep files line state now mid new result)
+      → ((a : Area) → mid.may_leave a (mid.bytes a))
+      → IsDone (answer_by step.verdict state files line) now mid new → IsUnderWay files first entry new now (answered ++ line ∷ [])
+  goes_on now result run step stay done =
+      let turn : Turn = record { line = line; verdict = step.verdict } in
+      let a = answer_at state files turn in
+      let marked = answer_marked step.verdict state files line (stored_now mid state.gaz stay run.holds) in
+      record {
+        turns = run.turns ++ turn ∷ [];
+        asked = asked_more run.turns turn ∙ ap (λ (ls : List (List ℕ)). ls ++ line ∷ []) run.asked;
+        legal = legal_on now result run step;
+        ends = state_more first files run.turns turn ∙ ap (λ (s : State). (answer_at s files turn).state) run.ends ∙ sym done.state_is;
+        printed = done.printed ∙ ap (λ (l : List ℕ). l ++ reply_text a.reply) run.printed ∙ append_assoc entry.printed (replies first files run.turns) (reply_text a.reply)
+            ∙ ap (λ (l : List ℕ). entry.printed ++ l) (sym (replies_on first files run.turns turn state run.ends marked));
+        stops = stops_on now result run step stay;
+        holds = subst (λ (s : State). AllHold new s.gaz) (sym done.state_is) done.holds;
+        tally = subst (λ (s : State). Tally first files (run.turns ++ turn ∷ []) s) (sym done.state_is) (one_turn first files run.turns turn state run.ends marked run.tally);
+      }
+
+  -- the station failed in this request
+  pub ends_cut : {A E : Type 0} (now : State) (result : Result A E) (run : IsUnderWay files first entry mid state answered) (step : OneStep files line state now mid new result)
+      → ((a : Area) → mid.may_leave a (mid.bytes a)) → ((a : Area) → new.may_leave a (new.bytes a))
+      → ((t : ℕ) (c : Outcome) → t ≤ new.moment → Leaves new c → new.left_since t c)
+      → (rest : List (List ℕ)) → RunKeeps files ((answered ++ line ∷ []) ++ rest) first entry new 3
+  ends_cut now result run step stay stay_new counts rest =
+      let turn : Turn = record { line = line; verdict = step.verdict } in
+      let stops = stops_on now result run step stay in
+      let here : Leaves new (as_it_is new) = record { areas = stay_new; text = refl } in
+      let stop = stops.each (as_it_is new) (counts entry.moment (as_it_is new) stops.later here) in
+      record {
+        turns = run.turns ++ turn ∷ [];
+        unanswered = rest;
+        asked = ap (λ (ls : List (List ℕ)). ls ++ rest) (sym (asked_more run.turns turn ∙ ap (λ (ls : List (List ℕ)). ls ++ line ∷ []) run.asked));
+        legal = legal_on now result run step;
+        all = λ is. absurd (omega (arith, is));
+        cut_last = λ earlier last is.
+            let same : run.turns ≡ earlier = but_last run.turns earlier turn last is in
+            subst (λ (ts : List Turn). IsFront (replies first files ts) stop.text) same
+            (reply_front state (answer_at state files turn) entry mid (as_it_is new) (replies first files run.turns) stop.text run.printed stop.printed (step.moments.each (as_it_is new) (counts mid.moment (as_it_is new) step.moments.later here)));
+        keeps = record {
+          stops = stops;
+          text = stop.text;
+          printed = stop.printed;
+          front = stop.front;
+          whole = λ other. absurd (other refl);
+          ended = λ other. absurd (other refl);
+          cut = λ is c leaves.
+              let s = stops.each c (counts entry.moment c stops.later leaves) in
+              let same : s.text ≡ stop.text = sym (drop-appended entry.printed c.text s.text s.printed) ∙ ap (drop (length entry.printed)) leaves.text ∙ drop-appended entry.printed new.printed stop.text stop.printed in
+              subst (λ (t : List ℕ). HoldsAcked (record { first = first; files = files; turns = run.turns ++ turn ∷ [] }) t c.areas) same s.holds;
+        };
+      }
+
+-- The run ends between two requests, with any status that doesn't say that the station failed.
+pub ends_well : (files : Files) (first : State) (entry now : StationView) (state : State) (answered rest : List (List ℕ)) (status : ℕ) → status ≢ 3 → (status ≡ 0 → rest ≡ []) → IsUnderWay files first entry now state answered → RunKeeps files (answered ++ rest) first entry now status
+ends_well files first entry now state answered rest status well all run = record {
+  turns = run.turns;
+  unanswered = rest;
+  asked = ap (λ (ls : List (List ℕ)). ls ++ rest) (sym run.asked);
+  legal = run.legal;
+  all = all;
+  cut_last = λ earlier last is.
+      subst (λ (l : List ℕ). IsFront (replies first files earlier) l)
+      (sym (replies_more first files earlier last) ∙ ap (replies first files) (sym is))
+      (front_more (replies first files earlier) (replies first files earlier) (reply_text (answer_at (state_after first files earlier) files last).reply) (front_whole (replies first files earlier)));
+  keeps = record {
+    stops = run.stops;
+    text = replies first files run.turns;
+    printed = run.printed;
+    front = front_whole (replies first files run.turns);
+    whole = λ other. refl;
+    ended = λ other c leaves. run.holds c leaves ∙ ap (λ (s : State). Some s.gaz) (sym run.ends);
+    cut = λ is. absurd (well is);
+  };
+}
+
+-- the first gazetteer of a run
+first_at : (first : State) (files : Files) (turns : List Turn) → after 0 first files turns ≡ Some first.gaz
+first_at first files [] = refl
+first_at first files (turn ∷ turns) = either (is_change (answer_at first files turn).reply) refl (first_at (answer_at first files turn).state files turns)
+  where
+    either : (b : Bool) → is_change (answer_at first files turn).reply ≡ b → after 0 (answer_at first files turn).state files turns ≡ Some (answer_at first files turn).state.gaz
+        → slice_get (cond b (first.gaz ∷ gazetteers (answer_at first files turn).state files turns) (gazetteers (answer_at first files turn).state files turns)) 0 ≡ Some first.gaz
+    either true is later = refl
+    either false is later = later ∙ ap Some (same_gaz first files turn is)
+
+module _ (files : Files) (gaz : Gazetteer) (entry : StationView) where
+  -- before any request, each outcome is a stop of any run
+  still_stop : (turns : List Turn) (c : Outcome) → IsStill gaz entry c → IsStop (course_of (record { gaz = gaz }) files turns) entry c
+  still_stop turns c is = record {
+    text = [];
+    printed = is.1 ∙ sym (append-nil entry.printed);
+    front = (0, omega arith, refl);
+    holds = record { gaz = gaz; content = is.0; one_of = inl (first_at (record { gaz = gaz }) files turns) };
+  }
+
+  -- a run that ends before its first request
+  pub ends_early : (exit : StationView) (lines : List (List ℕ)) (status : ℕ) → status ≢ 0 → LeavesOnly entry exit (IsStill gaz entry)
+      → exit.printed ≡ entry.printed
+      → ((t : ℕ) (c : Outcome) → t ≤ exit.moment → Leaves exit c → exit.left_since t c)
+      → RunKeeps files lines (record { gaz = gaz }) entry exit status
+  ends_early exit lines status other still printed counts = record {
+    turns = [];
+    unanswered = lines;
+    asked = refl;
+    legal = tt;
+    all = λ is. absurd (other is);
+    cut_last = λ earlier last is. absurd (none_one earlier last is);
+    keeps = record {
+      stops = leaves_weaker entry exit (IsStill gaz entry) (IsStop (course_of (record { gaz = gaz }) files []) entry) (λ c is. still_stop [] c is) still;
+      text = [];
+      printed = printed ∙ sym (append-nil entry.printed);
+      front = (0, omega arith, refl);
+      whole = λ well. refl;
+      ended = λ well c leaves. (still.each c (counts entry.moment c still.later leaves)).0;
+      cut = λ is c leaves. (record { gaz = gaz; content = (still.each c (counts entry.moment c still.later leaves)).0; one_of = inl refl });
+    };
+  }
+    where
+      none_one : (earlier : List Turn) (last : Turn) → [] ≡ earlier ++ last ∷ [] → ⊥
+      none_one [] last is = true≢false (ap (λ (l : List Turn). is_none_of l) is)
+        where
+          is_none_of : List Turn → Bool
+          is_none_of [] = true
+          is_none_of (t ∷ ts) = false
+      none_one (t ∷ ts) last is = true≢false (ap (λ (l : List Turn). is_none_of l) is)
+        where
+          is_none_of : List Turn → Bool
+          is_none_of [] = true
+          is_none_of (t ∷ ts) = false
+
+  -- a run that begins a little later
+  pub from_open : (mid exit : StationView) (lines : List (List ℕ)) (status : ℕ) → LeavesOnly entry mid (IsStill gaz entry) → mid.printed ≡ entry.printed
+      → RunKeeps files lines (record { gaz = gaz }) mid exit status → RunKeeps files lines (record { gaz = gaz }) entry exit status
+  from_open mid exit lines status still printed run =
+      let course = course_of (record { gaz = gaz }) files run.turns in
+      record {
+        turns = run.turns;
+        unanswered = run.unanswered;
+        asked = run.asked;
+        legal = run.legal;
+        all = run.all;
+        cut_last = run.cut_last;
+        keeps = record {
+          stops = goes_far entry mid exit (IsStop course entry) (IsStop course mid)
+              (leaves_weaker entry mid (IsStill gaz entry) (IsStop course entry) (λ c is. still_stop run.turns c is) still)
+              run.keeps.stops
+              (λ c stop. record { text = stop.text; printed = stop.printed ∙ ap (λ (l : List ℕ). l ++ stop.text) printed; front = stop.front; holds = stop.holds });
+          text = run.keeps.text;
+          printed = run.keeps.printed ∙ ap (λ (l : List ℕ). l ++ run.keeps.text) printed;
+          front = run.keeps.front;
+          whole = run.keeps.whole;
+          ended = run.keeps.ended;
+          cut = run.keeps.cut;
+        };
+      }

@@ -1,0 +1,148 @@
+-- The replies to request lines, one after another, and the gazetteers between them.
+use Rattle.std.specs.Prelude.{◌≡◌, ℕ, ◌⊎◌, ⊤, ◌++◌, List, [], ◌∷◌, count_by, Bool, true, false, Option, option_to_list, is_none, IsSome, Result, Ok, Err, if◌then◌else◌, slice_get}
+use Rattle.gaz_num.specs.declared.words.FileName.{FileName}
+use Rattle.gaz_num.specs.declared.words.Table.TheVariants.{Rows}
+use Rattle.gaz_num.specs.Words.{file_text}
+use Rattle.gaz_num.specs.Refusal as refusal
+use Rattle.gaz_num.specs.Refusal.{Refusal}
+use Rattle.gaz_plain.specs.Gazetteer.{Gazetteer, empty, line_with}
+use Rattle.gaz_plain.specs.Load.{Files, load, day, load_files, day_files, in_sequence}
+use Rattle.gaz_words.specs.declared.request.Request.{Request}
+use Rattle.gaz_words.specs.declared.request.Request.TheVariants.{Load, Day, Get}
+use Rattle.gaz_words.specs.declared.request.BadRequest.{BadRequest}
+use Rattle.gaz_words.specs.Grammar.{request_in, bad_word}
+use Rattle.gaz_reply.specs.declared.reply.Done.{Done}
+use Rattle.gaz_reply.specs.declared.reply.Done.TheVariants as done_of
+use Rattle.gaz_reply.specs.Reply.{Reply, done, rows, refused, reply_text, is_change}
+
+-- what a session stands for between two requests
+pub record State : Type 0 where
+  pub gaz : Gazetteer
+
+-- the state at first
+abbrev pub at_first : State
+at_first = record { gaz = empty }
+
+-- a reply and the state after it
+pub record Answer : Type 0 where
+  pub reply : Reply
+  pub state : State
+
+-- a reply that leaves the state
+abbrev pub same_state : State → Reply → Answer
+same_state state reply = record { reply = reply; state = state }
+
+-- a change that is made, or refused
+abbrev pub changed : State → Done → Result Gazetteer Refusal → Answer
+changed state change (Ok gaz) = record { reply = done change; state = record state { gaz = gaz } }
+changed state change (Err why) = same_state state (refused why)
+
+-- the reply, where something was loaded
+abbrev pub if_loaded : State → Reply → Reply
+if_loaded state reply = if is_none state.gaz.date then refused refusal.not_loaded else reply
+
+-- the answer to a request
+abbrev pub answer_to : State → Files → Request → Answer
+answer_to state files (Load date) = changed state (done_of.Load date) (load files date)
+answer_to state files (Day date) = changed state (done_of.Day date) (day state.gaz files date)
+answer_to state files (Get id) =
+    same_state state (if_loaded state (rows (option_to_list (line_with Rows (id ∷ []) state.gaz))))
+
+-- the answer to a line that was read, or refused by the grammar
+abbrev pub answer_to_read : State → Files → Result Request BadRequest → Answer
+answer_to_read state files (Ok request) = answer_to state files request
+answer_to_read state files (Err bad) = same_state state (refused (refusal.request (bad_word bad)))
+
+-- the answer to a request line
+abbrev pub plain_answer : State → Files → List ℕ → Answer
+plain_answer state files line = answer_to_read state files (request_in line)
+
+-- how a request is met: as defined, or refused for want of memory or by the shelf
+pub data Verdict : Type 0 where
+  plain : Verdict
+  memory : Verdict
+  shelf : FileName → Verdict
+
+-- the answer by a verdict
+abbrev pub answer_by : Verdict → State → Files → List ℕ → Answer
+answer_by plain state files line = plain_answer state files line
+answer_by memory state files line = same_state state (refused refusal.memory)
+answer_by (shelf file) state files line = same_state state (refused (refusal.shelf file))
+
+-- the files that a day opens, none where its date is refused
+abbrev pub day_opens : Result ℕ Refusal → List FileName
+day_opens (Ok next) = day_files next
+day_opens (Err why) = []
+
+-- the files that a request opens, none where it is refused before that
+abbrev pub opens : State → Result Request BadRequest → List FileName
+opens state (Ok (Load date)) = load_files
+opens state (Ok (Day date)) = day_opens (in_sequence state.gaz.date date)
+opens state (Ok (Get id)) = []
+opens state (Err bad) = []
+
+-- the file is one of these, and none before it is absent
+abbrev pub IsReached : Files → FileName → List FileName → Type 0
+IsReached files file [] = ⊥
+IsReached files file (name ∷ names) = (name ≡ file) ⊎ (IsSome (files (file_text name)) × IsReached files file names)
+
+-- a request that may be refused for want of memory: one that reads files
+abbrev pub MayStarve : Result Request BadRequest → Type 0
+MayStarve (Ok (Load date)) = ⊤
+MayStarve (Ok (Day date)) = ⊤
+MayStarve (Ok (Get id)) = ⊥
+MayStarve (Err bad) = ⊥
+
+-- a request may be met by the verdict
+abbrev pub MayBe : Verdict → State → Files → List ℕ → Type 0
+MayBe plain state files line = ⊤
+MayBe memory state files line = MayStarve (request_in line)
+MayBe (shelf file) state files line = IsReached files file (opens state (request_in line))
+
+-- a request line and how it is met
+pub record Turn : Type 0 where
+  pub line : List ℕ
+  pub verdict : Verdict
+
+-- the answer at a turn
+abbrev pub answer_at : State → Files → Turn → Answer
+answer_at state files turn = answer_by turn.verdict state files turn.line
+
+-- each turn may be met so
+abbrev pub IsLegal : State → Files → List Turn → Type 0
+IsLegal state files [] = ⊤
+IsLegal state files (turn ∷ turns) = MayBe turn.verdict state files turn.line × IsLegal (answer_at state files turn).state files turns
+
+-- the state after all turns
+abbrev pub state_after : State → Files → List Turn → State
+state_after state files [] = state
+state_after state files (turn ∷ turns) = state_after (answer_at state files turn).state files turns
+
+-- the text of all replies in order
+abbrev pub replies : State → Files → List Turn → List ℕ
+replies state files [] = []
+replies state files (turn ∷ turns) =
+    let answered = answer_at state files turn in
+    reply_text answered.reply ++ replies answered.state files turns
+
+-- the gazetteer at first, and after each change that is made
+abbrev pub gazetteers : State → Files → List Turn → List Gazetteer
+gazetteers state files [] = state.gaz ∷ []
+gazetteers state files (turn ∷ turns) =
+    let answered = answer_at state files turn in
+    let later = gazetteers answered.state files turns in
+    if is_change answered.reply then state.gaz ∷ later else later
+
+-- the gazetteer after the first k changes
+abbrev pub after : ℕ → State → Files → List Turn → Option Gazetteer
+after k state files turns = slice_get (gazetteers state files turns) k
+
+-- the shelf refused the request
+abbrev pub is_shelf : Verdict → Bool
+is_shelf plain = false
+is_shelf memory = false
+is_shelf (shelf file) = true
+
+-- how many requests the shelf refused
+abbrev pub shelf_refusals : List Turn → ℕ
+shelf_refusals turns = count_by (λ turn. is_shelf turn.verdict) turns

@@ -1,0 +1,63 @@
+-- The date of a request was read of its line.
+use Rattle.std.proofs.Common.{◌≡◌, ℕ, Bool, true, false, true≢false, List, length, refl, sym, ◌∙◌, ap, Option, Some, None}
+use Rattle.std.specs.Prelude.{not, is_some, Result, Ok, Err, ok_or, option_map, option_and_then, if◌then◌else◌, nat_lt}
+use Rattle.std.specs.Str.{is_utf8}
+use Rattle.gaz_num.specs.Numbers.{id_in}
+use Rattle.gaz_num.specs.Dates.{day_in}
+use Rattle.gaz_words.specs.declared.request.Request.{Request}
+use Rattle.gaz_words.specs.declared.request.Request.TheVariants as request_of
+use Rattle.gaz_words.specs.declared.request.BadRequest.{BadRequest}
+use Rattle.gaz_words.specs.declared.request.BadRequest.TheVariants as bad_of
+use Rattle.gaz_words.specs.declared.request.Verb.{Verb}
+use Rattle.gaz_words.specs.declared.request.Verb.TheVariants as verb
+use Rattle.gaz_words.specs.Grammar.{request_in, request_by, with_rest, rest_of, verb_of, verb_in, request_limit}
+
+-- the date of a change that is asked for
+abbrev pub date_in : Result Request BadRequest → Option ℕ
+date_in (Ok (request_of.Load date)) = Some date
+date_in (Ok (request_of.Day date)) = Some date
+date_in (Ok (request_of.Get id)) = None
+date_in (Err bad) = None
+
+none_some : {X : Type 0} (x : X) → None ≡ Some x → ⊥
+none_some x h = true≢false (sym (ap is_some h))
+
+-- The date was read of a text.
+abbrev pub WasRead : ℕ → Type 0
+WasRead date = (text : List ℕ) × (day_in text ≡ Some date)
+
+load_date : (o : Option ℕ) → date_in (ok_or (option_map request_of.Load o) bad_of.Date) ≡ o
+load_date None = refl
+load_date (Some date) = refl
+
+day_date : (o : Option ℕ) → date_in (ok_or (option_map request_of.Day o) bad_of.Date) ≡ o
+day_date None = refl
+day_date (Some date) = refl
+
+get_date : (o : Option ℕ) → date_in (ok_or (option_map request_of.Get o) bad_of.Id) ≡ None
+get_date None = refl
+get_date (Some id) = refl
+
+load_rest : (rest : Option (List ℕ)) (date : ℕ) → date_in (with_rest day_in request_of.Load bad_of.Date rest) ≡ Some date → WasRead date
+load_rest None date h = absurd (none_some date h)
+load_rest (Some text) date h = (text, sym (load_date (day_in text)) ∙ h)
+
+day_rest : (rest : Option (List ℕ)) (date : ℕ) → date_in (with_rest day_in request_of.Day bad_of.Date rest) ≡ Some date → WasRead date
+day_rest None date h = absurd (none_some date h)
+day_rest (Some text) date h = (text, sym (day_date (day_in text)) ∙ h)
+
+by_verb : (read : Option Verb) (rest : Option (List ℕ)) (date : ℕ) → date_in (request_by read rest) ≡ Some date → WasRead date
+by_verb (Some verb.Load) rest date h = load_rest rest date h
+by_verb (Some verb.Day) rest date h = day_rest rest date h
+by_verb (Some verb.Get) rest date h = absurd (none_some date (sym (get_date (option_and_then id_in rest)) ∙ h))
+by_verb None rest date h = absurd (none_some date h)
+
+by_tests : (long bad : Bool) (read : Option Verb) (rest : Option (List ℕ)) (date : ℕ)
+    → date_in (if long then Err bad_of.Length else if bad then Err bad_of.Utf8 else request_by read rest) ≡ Some date → WasRead date
+by_tests true bad read rest date h = absurd (none_some date h)
+by_tests false true read rest date h = absurd (none_some date h)
+by_tests false false read rest date h = by_verb read rest date h
+
+pub was_read : (line : List ℕ) (date : ℕ) → date_in (request_in line) ≡ Some date → WasRead date
+unfolding request_in
+was_read line date h = by_tests (nat_lt request_limit (length line)) (not (is_utf8 line)) (verb_in (verb_of line)) (rest_of line) date h
