@@ -6,7 +6,7 @@ use Rattle.std.proofs.lemmas.Bool.{false≢true}
 use Rattle.std.proofs.lemmas.List.{append-nil}
 use Rattle.gaz_outside.specs.Outside.{HasRisen, RisesOnce}
 use Rattle.gaz_plain.specs.Load.{Files}
-use Rattle.gaz_serve.specs.Run.{Turn, Verdict, plain, memory, shelf, is_shelf, shelf_refusals}
+use Rattle.gaz_turns.specs.Turns.{Turn, Verdict, plain, memory, shelf, is_shelf, shelf_refusals}
 use Rattle.gaz_serve.specs.Ran.{is_memory, memory_refusals, plain_turn, asked, RisesBy, RunAnswers, IsAnswered}
 use Rattle.gaz_serve.proofs.Lines.{unread, append_none}
 

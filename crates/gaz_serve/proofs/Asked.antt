@@ -8,7 +8,7 @@ use Rattle.gaz_words.specs.declared.request.Request.{Request}
 use Rattle.gaz_words.specs.declared.request.BadRequest.{BadRequest}
 use Rattle.gaz_words.specs.Grammar.{request_in, bad_word}
 use Rattle.gaz_reply.specs.Reply.{reply_text, refused}
-use Rattle.gaz_serve.specs.Run.{State, Verdict, plain, memory, shelf, answer_to_read, answer_by, opens, IsReached, MayBe, MayStarve}
+use Rattle.gaz_turns.specs.Turns.{State, Verdict, plain, memory, shelf, answer_to_read, answer_by, opens, IsReached, MayBe, MayStarve}
 use Rattle.gaz_serve.specs.Step.{Meets, MayMeet, OneStep, answer_of}
 
 -- a line that was read as the request

@@ -18,7 +18,7 @@ use Rattle.gaz_num.specs.Refusal.{request}
 use Rattle.gaz_words.specs.Grammar.{request_in}
 use Rattle.gaz_words.specs.declared.request.BadRequest.TheVariants.{Length}
 use Rattle.gaz_serve.proofs.Lines.{append_none}
-use Rattle.gaz_serve.specs.Run.{answer_to_read, State, Turn, Verdict, plain, memory, shelf, at_first, answer_at, IsLegal, state_after, replies, is_shelf, shelf_refusals}
+use Rattle.gaz_turns.specs.Turns.{answer_to_read, State, Turn, Verdict, plain, memory, shelf, at_first, answer_at, IsLegal, state_after, replies, is_shelf, shelf_refusals}
 use Rattle.gaz_serve.specs.Step.{IsBlamed, OneStep}
 use Rattle.gaz_serve.specs.Serve.{Given}
 use Rattle.gaz_serve.specs.Ran.{asked, RisesBy, IsHeard, RunAnswers}

@@ -12,7 +12,7 @@ use Rattle.gaz_reply.specs.Reply.{reply_text}
 use Rattle.gaz_serve.specs.declared.change.ChangeFault.{ChangeFault}
 use Rattle.gaz_serve.specs.declared.change.ChangeFault.TheVariants.{NotLoaded, Sequence, Absent, Shelf, TooLong, Malformed, Full, Memory}
 use Rattle.gaz_serve.specs.Change.{Gives, Blamed, BlamesReached, IsOfDate, IsUnblamed, refusal_by}
-use Rattle.gaz_serve.specs.Run.{State, changed, plain, memory, shelf, answer_to, opens, MayStarve}
+use Rattle.gaz_turns.specs.Turns.{State, changed, plain, memory, shelf, answer_to, opens, MayStarve}
 use Rattle.gaz_serve.specs.Step.{Changes, change_reply, Meets}
 
 -- a day whose date is refused

@@ -8,7 +8,7 @@ use Rattle.gaz_plain.specs.Gazetteer.{Gazetteer}
 use Rattle.gaz_plain.specs.Load.{Files}
 use Rattle.gaz_plain.specs.declared.plain_gaz.PlainFault.{PlainFault}
 use Rattle.gaz_plain.specs.declared.plain_gaz.PlainFault.TheVariants as plain_fault
-use Rattle.gaz_serve.specs.Run.{IsReached}
+use Rattle.gaz_turns.specs.Turns.{IsReached}
 use Rattle.gaz_serve.specs.declared.change.ChangeFault.{ChangeFault}
 use Rattle.gaz_serve.specs.declared.change.ChangeFault.TheVariants.{NotLoaded, Sequence, Absent, Shelf, TooLong, Malformed, Full, Memory}
 

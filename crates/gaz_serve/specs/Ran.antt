@@ -4,7 +4,7 @@ use Rattle.std.specs.Io.KnownBytes.{append_known}
 use Rattle.gaz_outside.specs.Outside.{SourceView, ShelfView, StationView, SameFiles, HasRisen, RisesOnce, SameNumbers, IsPrefix, left_of, files_of, printed_of}
 use Rattle.gaz_outside.specs.Station.{AreasStay}
 use Rattle.gaz_plain.specs.Load.{Files}
-use Rattle.gaz_serve.specs.Run.{Turn, Verdict, plain, memory, shelf, at_first, IsLegal, replies, shelf_refusals}
+use Rattle.gaz_turns.specs.Turns.{Turn, Verdict, plain, memory, shelf, at_first, IsLegal, replies, shelf_refusals}
 use Rattle.gaz_num.specs.Pieces.{ended_lines}
 use Rattle.gaz_serve.specs.Change.{NoneOpen}
 use Rattle.gaz_serve.specs.Serve.{Given, Taken}

@@ -9,7 +9,7 @@ use Rattle.gaz_reply.specs.declared.reply.Done.{Done}
 use Rattle.gaz_reply.specs.Reply.{Reply, done, refused, reply_text}
 use Rattle.gaz_serve.specs.declared.change.ChangeFault.{ChangeFault}
 use Rattle.gaz_serve.specs.Change.{Gives, IsUnblamed, FailedAt, refusal_by}
-use Rattle.gaz_serve.specs.Run.{State, Answer, same_state, Verdict, plain, memory, shelf, MayBe, MayStarve, IsReached, opens, answer_to, answer_by}
+use Rattle.gaz_turns.specs.Turns.{State, Answer, same_state, Verdict, plain, memory, shelf, MayBe, MayStarve, IsReached, opens, answer_to, answer_by}
 use Rattle.gaz_words.specs.declared.request.Request.{Request}
 
 -- The state has the defined gazetteer, or the change was refused and left the state.

@@ -6,7 +6,7 @@ ghost use Rattle.gaz_num.specs.Refusal.{request};
 ghost use Rattle.gaz_lines.specs.Cutter.{line_limit_of, file_limit_of, IsFresh};
 ghost use Rattle.gaz_reply.specs.Reply.{reply_text, refused};
 ghost use Rattle.gaz_serve.specs.Change.{NoneOpen};
-ghost use Rattle.gaz_serve.specs.Run.{at_first};
+ghost use Rattle.gaz_turns.specs.Turns.{at_first};
 ghost use Rattle.gaz_serve.specs.Ran.{RunAnswers};
 ghost use Rattle.gaz_serve.specs.Serve.{Taken};
 

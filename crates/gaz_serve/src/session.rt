@@ -7,7 +7,7 @@ ghost use Rattle.gaz_plain.specs.Gazetteer.{line_with};
 ghost use Rattle.gaz_plain.specs.Load.{load, day, load_files, in_sequence};
 ghost use Rattle.gaz_words.specs.Grammar.{request_in};
 ghost use Rattle.gaz_reply.specs.Reply.{reply_text, refused, refusal_of, rows};
-ghost use Rattle.gaz_serve.specs.Run.{at_first, day_opens, if_loaded, opens};
+ghost use Rattle.gaz_turns.specs.Turns.{at_first, day_opens, if_loaded, opens};
 ghost use Rattle.gaz_serve.specs.Change.{Blamed, BlamesReached, Closes, NoneOpen};
 ghost use Rattle.gaz_serve.specs.Step.{Changes, change_reply, Meets, OneStep};
 
@@ -39,7 +39,7 @@ pub struct Session {
 impl Model for Session {
     ghost use Rattle.std.specs.Prelude.{◌≡◌, ◌^◌};
     ghost use Rattle.gaz_lines.specs.Cutter.{line_limit_of, file_limit_of};
-    ghost use Rattle.gaz_serve.specs.Run.{State};
+    ghost use Rattle.gaz_turns.specs.Turns.{State};
 
     ghost Value = { State };
 

@@ -3,7 +3,7 @@ use Rattle.std.specs.Prelude.{Ok}
 use Rattle.gaz_plain.specs.Load.{load, day}
 use Rattle.gaz_reply.specs.declared.reply.Done.TheVariants as done_of
 use Rattle.gaz_serve.specs.Change.{BlamesReached}
-use Rattle.gaz_serve.specs.Run.{answer_to, opens, MayStarve}
+use Rattle.gaz_turns.specs.Turns.{answer_to, opens, MayStarve}
 use Rattle.gaz_serve.proofs.Changing.{both_known}
 use Rattle.gaz_serve.proofs.Stepping.{change_meets}
 use Rattle.gaz_serve.proofs.session.answer_request.Goals as goal
