@@ -7,6 +7,8 @@
 mod fault;
 mod root;
 mod storing;
+#[cfg(test)]
+mod tests;
 mod text;
 mod writer;
 
