@@ -5,6 +5,7 @@
 #![tactic(auto)]
 
 mod fault;
+mod law;
 mod root;
 mod storing;
 #[cfg(test)]
@@ -13,4 +14,5 @@ mod text;
 mod writer;
 
 pub use fault::StoreFault;
+pub use law::store_and_open;
 pub use storing::store;
