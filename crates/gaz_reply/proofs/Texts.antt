@@ -12,6 +12,8 @@ use Rattle.gaz_num.specs.Refusal.{Refusal, request, sequence, absent, shelf, too
 use Rattle.gaz_reply.specs.declared.refusal.Refusal as code
 use Rattle.gaz_reply.specs.declared.reply.Done.TheVariants.{Load, Day}
 use Rattle.gaz_reply.specs.Reply.{reply_text, refused, refusal_of, done}
+use Rattle.gaz_reply.specs.Tells.{MayBeCut}
+use Rattle.gaz_reply.proofs.Cuts.{same_cut}
 use Rattle.gaz_reply.proofs.Pieces.{same_print}
 
 -- a line with its LF, as the lines of a reply have it
@@ -57,3 +59,8 @@ full_text file number table word is =
 pub tells : {T E : Type 0} (text : List ℕ) (why : Refusal) (refusal : code.Refusal) (old new : StationView) (result : Result T E) → text ≡ reply_text (refused why) → why ≡ refusal_of refusal → Prints text old new result → Prints (reply_text (refused (refusal_of refusal))) old new result
 tells text why refusal old new result e is p =
     same_print text (reply_text (refused (refusal_of refusal))) old new result (e ∙ ap (λ r. reply_text (refused r)) is) p
+
+-- a text that tells this refusal, cut
+pub tells_cut : (text : List ℕ) (why : Refusal) (refusal : code.Refusal) (old new : StationView) → text ≡ reply_text (refused why) → why ≡ refusal_of refusal → MayBeCut text old new → MayBeCut (reply_text (refused (refusal_of refusal))) old new
+tells_cut text why refusal old new e is cut =
+    same_cut text (reply_text (refused (refusal_of refusal))) old new (e ∙ ap (λ r. reply_text (refused r)) is) cut

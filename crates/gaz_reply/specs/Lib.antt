@@ -1,2 +1,3 @@
 pub mod Line
 pub mod Reply
+pub mod Tells

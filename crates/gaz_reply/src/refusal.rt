@@ -5,6 +5,7 @@ ghost use Rattle.gaz_outside.specs.Station.{AreasStay};
 ghost use Rattle.gaz_num.specs.Words.{file_text};
 ghost use Rattle.gaz_reply.specs.Line.{text_of};
 ghost use Rattle.gaz_reply.specs.Reply.{reply_text, refused, refusal_of};
+ghost use Rattle.gaz_reply.specs.Tells.{MayBeCut};
 
 use crate::line::Line;
 use crate::reply::{print_dated, print_two};
@@ -38,6 +39,7 @@ pub enum Refusal<'a> {
 /// Prints the refusal of a request line with its bad word.
 fn print_bad_word<T: Station>(station: &mut T, word: &str) -> Result<(), Failed>
     ensures printed { Prints (codes "refused request " ++ word.now ++ codes "\n") (T.view station.old) (T.view station.new) result }
+    ensures moments { MayBeCut (codes "refused request " ++ word.now ++ codes "\n") (T.view station.old) (T.view station.new) }
     ensures told { (T.view station.new).is_told ≡ (T.view station.old).is_told }
     ensures areas { AreasStay (T.view station.old) (T.view station.new) }
     ensures cause { HasCause (T.view station.old).faults (T.view station.new).faults result }
@@ -63,6 +65,7 @@ fn push_file(line: &mut Line, file: FileName)
 fn print_file<T: Station>(station: &mut T, front: &[u8], file: FileName) -> Result<(), Failed>
     requires { length front.now ≤ 32 }
     ensures printed { Prints (front.now ++ file_text file ++ codes "\n") (T.view station.old) (T.view station.new) result }
+    ensures moments { MayBeCut (front.now ++ file_text file ++ codes "\n") (T.view station.old) (T.view station.new) }
     ensures told { (T.view station.new).is_told ≡ (T.view station.old).is_told }
     ensures areas { AreasStay (T.view station.old) (T.view station.new) }
     ensures cause { HasCause (T.view station.old).faults (T.view station.new).faults result }
@@ -85,6 +88,7 @@ fn print_line<T: Station>(
     requires front { length front.now ≤ 32 }
     requires word { length word.now ≤ 16 }
     ensures printed { Prints (front.now ++ file_text file ++ codes " " ++ decimal number ++ codes " " ++ word.now ++ codes "\n") (T.view station.old) (T.view station.new) result }
+    ensures moments { MayBeCut (front.now ++ file_text file ++ codes " " ++ decimal number ++ codes " " ++ word.now ++ codes "\n") (T.view station.old) (T.view station.new) }
     ensures told { (T.view station.new).is_told ≡ (T.view station.old).is_told }
     ensures areas { AreasStay (T.view station.old) (T.view station.new) }
     ensures cause { HasCause (T.view station.old).faults (T.view station.new).faults result }
@@ -104,6 +108,7 @@ fn print_line<T: Station>(
 /// Prints why a request is refused.
 pub fn write_refusal<T: Station>(station: &mut T, refusal: &Refusal<'_>) -> Result<(), Failed>
     ensures printed { Prints (reply_text (refused (refusal_of refusal.now))) (T.view station.old) (T.view station.new) result }
+    ensures moments { MayBeCut (reply_text (refused (refusal_of refusal.now))) (T.view station.old) (T.view station.new) }
     ensures told { (T.view station.new).is_told ≡ (T.view station.old).is_told }
     ensures areas { AreasStay (T.view station.old) (T.view station.new) }
     ensures cause { HasCause (T.view station.old).faults (T.view station.new).faults result }

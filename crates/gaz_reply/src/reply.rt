@@ -4,6 +4,7 @@ ghost use Rattle.gaz_outside.specs.Outside.{HasCause, Prints};
 ghost use Rattle.gaz_outside.specs.Station.{AreasStay};
 ghost use Rattle.gaz_num.specs.Dates.{date_text};
 ghost use Rattle.gaz_reply.specs.Reply.{reply_text, with_ends, end_line, done};
+ghost use Rattle.gaz_reply.specs.Tells.{MayBeCut};
 
 use crate::line::Line;
 use gaz_num::{Day, write_date};
@@ -26,6 +27,7 @@ pub(crate) fn print_two<T: Station>(
     second: &[u8],
 ) -> Result<(), Failed>
     ensures printed { Prints (first.now ++ second.now) (T.view station.old) (T.view station.new) result }
+    ensures moments { MayBeCut (first.now ++ second.now) (T.view station.old) (T.view station.new) }
     ensures told { (T.view station.new).is_told ≡ (T.view station.old).is_told }
     ensures areas { AreasStay (T.view station.old) (T.view station.new) }
     ensures cause { HasCause (T.view station.old).faults (T.view station.new).faults result }
@@ -44,6 +46,7 @@ pub(crate) fn print_dated<T: Station>(
 ) -> Result<(), Failed>
     requires { length front.now ≤ 32 }
     ensures printed { Prints (front.now ++ date_text date ++ codes "\n") (T.view station.old) (T.view station.new) result }
+    ensures moments { MayBeCut (front.now ++ date_text date ++ codes "\n") (T.view station.old) (T.view station.new) }
     ensures told { (T.view station.new).is_told ≡ (T.view station.old).is_told }
     ensures areas { AreasStay (T.view station.old) (T.view station.new) }
     ensures cause { HasCause (T.view station.old).faults (T.view station.new).faults result }
@@ -58,6 +61,7 @@ pub(crate) fn print_dated<T: Station>(
 /// Prints a stored line, which holds no LF, and an LF.
 pub fn write_row<T: Station>(station: &mut T, line: &[u8]) -> Result<(), Failed>
     ensures printed { Prints (with_ends (line.now ∷ [])) (T.view station.old) (T.view station.new) result }
+    ensures moments { MayBeCut (with_ends (line.now ∷ [])) (T.view station.old) (T.view station.new) }
     ensures told { (T.view station.new).is_told ≡ (T.view station.old).is_told }
     ensures areas { AreasStay (T.view station.old) (T.view station.new) }
     ensures cause { HasCause (T.view station.old).faults (T.view station.new).faults result }
@@ -68,6 +72,7 @@ pub fn write_row<T: Station>(station: &mut T, line: &[u8]) -> Result<(), Failed>
 /// Prints `ok N`, with the number of lines that were told.
 pub fn write_end<T: Station>(station: &mut T, rows: u64) -> Result<(), Failed>
     ensures printed { Prints (with_ends (end_line rows ∷ [])) (T.view station.old) (T.view station.new) result }
+    ensures moments { MayBeCut (with_ends (end_line rows ∷ [])) (T.view station.old) (T.view station.new) }
     ensures told { (T.view station.new).is_told ≡ (T.view station.old).is_told }
     ensures areas { AreasStay (T.view station.old) (T.view station.new) }
     ensures cause { HasCause (T.view station.old).faults (T.view station.new).faults result }
@@ -83,6 +88,7 @@ pub fn write_end<T: Station>(station: &mut T, rows: u64) -> Result<(), Failed>
 /// Prints the line that acknowledges a change, in one piece.
 pub fn write_done<T: Station>(station: &mut T, change: Done) -> Result<(), Failed>
     ensures printed { Prints (reply_text (done change)) (T.view station.old) (T.view station.new) result }
+    ensures moments { MayBeCut (reply_text (done change)) (T.view station.old) (T.view station.new) }
     ensures told { (T.view station.new).is_told ≡ (T.view station.old).is_told }
     ensures areas { AreasStay (T.view station.old) (T.view station.new) }
     ensures cause { HasCause (T.view station.old).faults (T.view station.new).faults result }

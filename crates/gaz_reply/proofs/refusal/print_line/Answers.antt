@@ -1,5 +1,15 @@
+use Rattle.std.proofs.Common.{◌++◌, append_assoc, refl}
+use Rattle.std.specs.Prelude.{codes, decimal}
+use Rattle.gaz_num.specs.Words.{file_text}
 use Rattle.gaz_outside.proofs.Runs.{areas_stay_print}
+use Rattle.gaz_reply.proofs.Cuts.{cut_in_one, same_cut}
 use Rattle.gaz_reply.proofs.refusal.print_line.Goals as goal
 
 pub returns-clause-areas : goal.returns-clause-areas
 returns-clause-areas g c = areas_stay_print _ _ _ c.print.ensures.counts c.print.ensures.appends
+
+pub returns-clause-moments : goal.returns-clause-moments
+returns-clause-moments g c =
+    same_cut c.text.result.now (c.args.front.now ++ file_text c.args.file ++ codes " " ++ decimal c.args.number ++ codes " " ++ c.args.word.now ++ codes "\n") _ _
+    (simp (c.text.ensures, c.push-6.ensures.text, c.push-5.ensures.text, c.as_bytes-2.ensures.value, c.push-4.ensures.text, c.push-3.ensures.text, c.as_bytes.ensures.value, c.format.ensures.text, c.push-2.ensures.text, c.push_file.ensures.text, c.push.ensures.text, c.new-line.ensures, append_assoc) refl)
+    (cut_in_one _ _ _ c.print.ensures.appends)

@@ -2,7 +2,8 @@ use Rattle.std.proofs.Common.{ap, refl, sym}
 use Rattle.gaz_outside.proofs.Runs.{areas_stay_print}
 use Rattle.gaz_num.specs.Refusal.{not_loaded, sequence, absent, shelf, too_long, malformed, full, memory}
 use Rattle.gaz_reply.specs.Reply.{refusal_of}
-use Rattle.gaz_reply.proofs.Texts.{sequence_text, absent_text, shelf_text, too_long_text, malformed_text, full_text, tells}
+use Rattle.gaz_reply.proofs.Cuts.{cut_in_one}
+use Rattle.gaz_reply.proofs.Texts.{sequence_text, absent_text, shelf_text, too_long_text, malformed_text, full_text, tells, tells_cut}
 use Rattle.gaz_reply.proofs.refusal.write_refusal.Goals as goal
 
 pub returns-in-NotLoaded-clause-printed : goal.returns-in-NotLoaded-clause-printed
@@ -34,3 +35,15 @@ returns-in-NotLoaded-clause-areas g c = areas_stay_print _ _ _ c.print.ensures.c
 
 pub returns-in-Memory-clause-areas : goal.returns-in-Memory-clause-areas
 returns-in-Memory-clause-areas g c = areas_stay_print _ _ _ c.print-in-Memory.ensures.counts c.print-in-Memory.ensures.appends
+
+pub returns-in-NotLoaded-clause-moments : goal.returns-in-NotLoaded-clause-moments
+returns-in-NotLoaded-clause-moments g c = tells_cut _ not_loaded c.args.refusal.now _ _ refl (ap refusal_of (sym c.in-NotLoaded.is)) (cut_in_one _ _ _ c.print.ensures.appends)
+
+pub returns-in-Malformed-clause-moments : goal.returns-in-Malformed-clause-moments
+returns-in-Malformed-clause-moments g c = tells_cut _ (malformed c.in-Malformed.file c.in-Malformed.number c.in-Malformed.reason) c.args.refusal.now _ _ (malformed_text c.in-Malformed.file c.in-Malformed.number c.in-Malformed.reason c.text.result.now c.text.ensures) (ap refusal_of (sym c.in-Malformed.is)) c.print_line.ensures.moments
+
+pub returns-in-Full-clause-moments : goal.returns-in-Full-clause-moments
+returns-in-Full-clause-moments g c = tells_cut _ (full c.in-Full.file c.in-Full.number c.in-Full.table) c.args.refusal.now _ _ (full_text c.in-Full.file c.in-Full.number c.in-Full.table c.text-in-Full.result.now c.text-in-Full.ensures) (ap refusal_of (sym c.in-Full.is)) c.print_line-in-Full.ensures.moments
+
+pub returns-in-Memory-clause-moments : goal.returns-in-Memory-clause-moments
+returns-in-Memory-clause-moments g c = tells_cut _ memory c.args.refusal.now _ _ refl (ap refusal_of (sym c.in-Memory.is)) (cut_in_one _ _ _ c.print-in-Memory.ensures.appends)
