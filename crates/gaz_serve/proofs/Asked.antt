@@ -8,6 +8,7 @@ use Rattle.gaz_words.specs.declared.request.Request.{Request}
 use Rattle.gaz_words.specs.declared.request.BadRequest.{BadRequest}
 use Rattle.gaz_words.specs.Grammar.{request_in, bad_word}
 use Rattle.gaz_reply.specs.Reply.{reply_text, refused}
+use Rattle.gaz_reply.specs.Tells.{MayBeCut}
 use Rattle.gaz_turns.specs.Turns.{State, Verdict, plain, memory, shelf, answer_to_read, answer_by, opens, IsReached, MayBe, MayStarve}
 use Rattle.gaz_serve.specs.Step.{Meets, MayMeet, OneStep, answer_of}
 
@@ -32,16 +33,19 @@ module _ (state : State) (files : Files) (line : List ℕ) (asked : Request) (re
         may = may_be step.verdict step.may;
         blamed = step.blamed;
         printed = subst (λ a. Prints {T = Unit {0}} {E = E} (reply_text a.reply) station station_now (Ok tt)) same (subst (λ r. Prints (reply_text (answer_of step.verdict state files asked).reply) station station_now r) is_ok step.printed);
+        cut = subst (λ a. MayBeCut (reply_text a.reply) station station_now) same step.cut;
         state_is = step.state_is ∙ ap (λ a. a.state) same;
       }
 
 -- A line that the grammar refuses is one step.
-pub unread_step : {E D : Type 0} (state : State) (files : Files) (line word : List ℕ) (bad : BadRequest) (view : ShelfView) (station station_now : StationView) (result : Result (Unit {0}) E) → request_in line ≡ Err bad → word ≡ bad_word bad → result ≡ Ok tt → Prints (reply_text (refused (request word))) station station_now result → OneStep {A = Unit {0}} {E = D} files line state state view view station station_now (Ok tt)
-unread_step {E = E} state files line word bad view station station_now result read is is_ok printed = record {
+pub unread_step : {E D : Type 0} (state : State) (files : Files) (line word : List ℕ) (bad : BadRequest) (view : ShelfView) (station station_now : StationView) (result : Result (Unit {0}) E) → request_in line ≡ Err bad → word ≡ bad_word bad → result ≡ Ok tt → Prints (reply_text (refused (request word))) station station_now result → MayBeCut (reply_text (refused (request word))) station station_now → OneStep {A = Unit {0}} {E = D} files line state state view view station station_now (Ok tt)
+unread_step {E = E} state files line word bad view station station_now result read is is_ok printed cut = record {
   verdict = plain;
   may = tt;
   blamed = record { faults = refl; last = refl };
   printed = subst (λ r. Prints {T = Unit {0}} {E = E} (reply_text (answer_to_read state files r).reply) station station_now (Ok tt)) (sym read)
       (subst (λ w. Prints {T = Unit {0}} {E = E} (reply_text (refused (request w))) station station_now (Ok tt)) is (subst (λ r. Prints (reply_text (refused (request word))) station station_now r) is_ok printed));
+  cut = subst (λ r. MayBeCut (reply_text (answer_to_read state files r).reply) station station_now) (sym read)
+      (subst (λ w. MayBeCut (reply_text (refused (request w))) station station_now) is cut);
   state_is = sym (ap (λ r. (answer_to_read state files r).state) read);
 }

@@ -13,6 +13,7 @@ use Rattle.gaz_lines.proofs.Rests.{rest_with}
 use Rattle.gaz_lines.proofs.Told.{Told, told_line, told_too_long, told_end}
 use Rattle.gaz_plain.specs.Load.{Files}
 use Rattle.gaz_reply.specs.Reply.{reply_text, refused}
+use Rattle.gaz_reply.specs.Tells.{MayBeCut}
 use Rattle.gaz_reply.proofs.Pieces.{append_two}
 use Rattle.gaz_num.specs.Refusal.{request}
 use Rattle.gaz_words.specs.Grammar.{request_in}
@@ -217,12 +218,13 @@ long_request : (line : List ℕ) → 4096 < length line → request_in line ≡ 
 unfolding request_in
 long_request line long = let more : nat_lt 4096 (length line) ≡ true = grind (arith, common_steps) in rw more refl
 
-pub long_step : {E : Type 0} (files : Files) (line : List ℕ) (state : State) (view : ShelfView) (station station_now : StationView) (result : Result (Unit {0}) E) → 4096 < length line → Prints (reply_text (refused (request (codes "length")))) station station_now result → OneStep files line state state view view station station_now result
-long_step files line state view station station_now result long printed = record {
+pub long_step : {E : Type 0} (files : Files) (line : List ℕ) (state : State) (view : ShelfView) (station station_now : StationView) (result : Result (Unit {0}) E) → 4096 < length line → Prints (reply_text (refused (request (codes "length")))) station station_now result → MayBeCut (reply_text (refused (request (codes "length")))) station station_now → OneStep files line state state view view station station_now result
+long_step files line state view station station_now result long printed cut = record {
   verdict = plain;
   may = tt;
   blamed = record { faults = refl; last = refl };
   printed = subst (λ r. Prints (reply_text (answer_to_read state files r).reply) station station_now result) (sym (long_request line long)) printed;
+  cut = subst (λ r. MayBeCut (reply_text (answer_to_read state files r).reply) station station_now) (sym (long_request line long)) cut;
   state_is = sym (ap (λ r. (answer_to_read state files r).state) (long_request line long));
 }
 

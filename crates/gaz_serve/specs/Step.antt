@@ -7,6 +7,7 @@ use Rattle.gaz_plain.specs.Gazetteer.{Gazetteer}
 use Rattle.gaz_plain.specs.Load.{Files}
 use Rattle.gaz_reply.specs.declared.reply.Done.{Done}
 use Rattle.gaz_reply.specs.Reply.{Reply, done, refused, reply_text}
+use Rattle.gaz_reply.specs.Tells.{MayBeCut}
 use Rattle.gaz_serve.specs.declared.change.ChangeFault.{ChangeFault}
 use Rattle.gaz_serve.specs.Change.{Gives, IsUnblamed, FailedAt, refusal_by}
 use Rattle.gaz_turns.specs.Turns.{State, Answer, same_state, Verdict, plain, memory, shelf, MayBe, MayStarve, IsReached, opens, answer_to, answer_by}
@@ -46,13 +47,15 @@ pub record Meets {A E : Type 0} (files : Files) (request : Request) (state state
   pub may : MayMeet verdict state files request
   pub blamed : IsBlamed verdict shelf shelf_now
   pub printed : Prints (reply_text (answer_of verdict state files request).reply) station station_now result
+  pub cut : MayBeCut (reply_text (answer_of verdict state files request).reply) station station_now
   pub state_is : state_now ≡ (answer_of verdict state files request).state
 
 -- One request is one step: it is met by a verdict that it may have, its reply is printed, or a front of it where the station
--- failed, and the state is the one after it.
+-- failed or where a stop came inside it, and the state is the one after it.
 pub record OneStep {A E : Type 0} (files : Files) (line : List ℕ) (state state_now : State) (shelf shelf_now : ShelfView) (station station_now : StationView) (result : Result A E) : Type 0 where
   pub verdict : Verdict
   pub may : MayBe verdict state files line
   pub blamed : IsBlamed verdict shelf shelf_now
   pub printed : Prints (reply_text (answer_by verdict state files line).reply) station station_now result
+  pub cut : MayBeCut (reply_text (answer_by verdict state files line).reply) station station_now
   pub state_is : state_now ≡ (answer_by verdict state files line).state

@@ -5,6 +5,7 @@ ghost use Rattle.gaz_outside.specs.Station.{AreasStay};
 ghost use Rattle.gaz_num.specs.Refusal.{request};
 ghost use Rattle.gaz_lines.specs.Cutter.{line_limit_of, file_limit_of, IsFresh};
 ghost use Rattle.gaz_reply.specs.Reply.{reply_text, refused};
+ghost use Rattle.gaz_reply.specs.Tells.{MayBeCut};
 ghost use Rattle.gaz_serve.specs.Change.{NoneOpen};
 ghost use Rattle.gaz_turns.specs.Turns.{at_first};
 ghost use Rattle.gaz_serve.specs.Ran.{RunAnswers};
@@ -19,6 +20,7 @@ use gaz_words::BadRequest;
 /// Answers a request line that is longer than the longest.
 fn refuse_long<T: Station>(station: &mut T) -> Result<(), EndFault>
     ensures printed { Prints (reply_text (refused (request (codes "length")))) (T.view station.old) (T.view station.new) result }
+    ensures moments { MayBeCut (reply_text (refused (request (codes "length")))) (T.view station.old) (T.view station.new) }
     ensures told { (T.view station.new).is_told ≡ (T.view station.old).is_told }
     ensures areas { AreasStay (T.view station.old) (T.view station.new) }
     ensures cause { HasCause (T.view station.old).faults (T.view station.new).faults result }

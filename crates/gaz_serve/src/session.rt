@@ -7,6 +7,7 @@ ghost use Rattle.gaz_plain.specs.Gazetteer.{line_with};
 ghost use Rattle.gaz_plain.specs.Load.{load, day, load_files, in_sequence};
 ghost use Rattle.gaz_words.specs.Grammar.{request_in};
 ghost use Rattle.gaz_reply.specs.Reply.{reply_text, refused, refusal_of, rows};
+ghost use Rattle.gaz_reply.specs.Tells.{MayBeCut};
 ghost use Rattle.gaz_turns.specs.Turns.{at_first, day_opens, if_loaded, opens};
 ghost use Rattle.gaz_serve.specs.Change.{Blamed, BlamesReached, Closes, NoneOpen};
 ghost use Rattle.gaz_serve.specs.Step.{Changes, change_reply, Meets, OneStep};
@@ -124,6 +125,7 @@ impl Session {
     /// Tells the place with the id, if there is one.
     fn tell_place<T: Station>(&self, station: &mut T, id: u32) -> Result<(), Failed>
         ensures printed { Prints (reply_text (if_loaded self.now (rows (option_to_list (line_with Rows (id ∷ []) self.now.gaz))))) (T.view station.old) (T.view station.new) result }
+        ensures moments { MayBeCut (reply_text (if_loaded self.now (rows (option_to_list (line_with Rows (id ∷ []) self.now.gaz))))) (T.view station.old) (T.view station.new) }
         ensures told { (T.view station.new).is_told ≡ (T.view station.old).is_told }
         ensures areas { AreasStay (T.view station.old) (T.view station.new) }
         ensures cause { HasCause (T.view station.old).faults (T.view station.new).faults result }
@@ -142,6 +144,7 @@ fn tell_change<T: Station>(
     made: Result<(), ChangeFault>,
 ) -> Result<(), Failed>
     ensures printed { Prints (reply_text (change_reply change made)) (T.view station.old) (T.view station.new) result }
+    ensures moments { MayBeCut (reply_text (change_reply change made)) (T.view station.old) (T.view station.new) }
     ensures told { (T.view station.new).is_told ≡ (T.view station.old).is_told }
     ensures areas { AreasStay (T.view station.old) (T.view station.new) }
     ensures cause { HasCause (T.view station.old).faults (T.view station.new).faults result }

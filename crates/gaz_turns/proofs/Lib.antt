@@ -4,5 +4,6 @@ pub mod Marks
 pub mod Replied
 pub mod Stored
 pub mod Tallies
+pub mod Told
 pub mod Underway
 pub mod Follow

@@ -90,7 +90,7 @@ returns-in-Err-Station-refuse_long-clause-answers g c =
     weaker _ (λ files way.
     let line = long_told _ _ gave.refuses.line _ _ long gave.refuses.cuts.is_line gave.gives way.told in
     run_cut files _ _ _ _ _ _ _ _ way line.0 line.2 _ line.3 _ (g.F.Shelf.view c.loop-line.shelf) (g.F.Shelf.view c.loop-line.shelf) _ _ refl refl 3 _ refl heard c.in-Err-Station-refuse_long.field-0
-    (long_step files line.0 _ (g.F.Shelf.view c.loop-line.shelf) _ _ _ line.1 (rw c.in-Err-Station-refuse_long.is at c.refuse_long.ensures.printed))) i.way
+    (long_step files line.0 _ (g.F.Shelf.view c.loop-line.shelf) _ _ _ line.1 (rw c.in-Err-Station-refuse_long.is at c.refuse_long.ensures.printed) c.refuse_long.ensures.moments)) i.way
 
 pub loop-line-preserved : goal.loop-line-preserved
 loop-line-preserved g c =
@@ -102,7 +102,7 @@ loop-line-preserved g c =
       way = weaker _ (λ files way.
           let line = long_told _ _ gave.refuses.line _ _ long gave.refuses.cuts.is_line gave.gives way.told in
           next_way files _ _ _ _ _ _ _ _ way {E = EndFault} line.0 line.2 _ line.3 _ (g.F.Shelf.view c.loop-line.shelf) (g.F.Shelf.view c.loop-line.shelf) _ _ refl refl _ gave.numbers.0
-          (long_step files line.0 _ (g.F.Shelf.view c.loop-line.shelf) _ _ _ line.1 (rw c.in_default-refuse_long.is at c.refuse_long.ensures.printed))) i.way;
+          (long_step files line.0 _ (g.F.Shelf.view c.loop-line.shelf) _ _ _ line.1 (rw c.in_default-refuse_long.is at c.refuse_long.ensures.printed) c.refuse_long.ensures.moments)) i.way;
       line_limit = gave.line_limit ∙ i.line_limit;
       reads = inr c.next_source.follows.holds-at-none.reads;
       ended = gave.ended;

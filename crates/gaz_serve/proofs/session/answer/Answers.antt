@@ -10,5 +10,5 @@ returns-in-Ok-told-clause-step g c = elim c.match-read_request.branch [
       (λ files step. read_step c.args.session.now files c.args.line.now w.in-Ok.request (sym c.read_request.ensures ∙ w.in-Ok.is) _ _ _ _ _ w.answer_request-told.result (sym w.told-is ∙ c.in-Ok-told.is) step)
       w.answer_request-told.ensures.step)
   | in-Err w ↦ rw (w.session-is, w.shelf-is, w.station-is) (always _
-      (λ files. unread_step c.args.session.now files c.args.line.now w.word.result.now w.in-Err.bad _ _ _ w.write_refusal-told.result (sym c.read_request.ensures ∙ w.in-Err.is) w.word.ensures (sym w.told-is ∙ c.in-Ok-told.is) w.write_refusal-told.ensures.printed))
+      (λ files. unread_step c.args.session.now files c.args.line.now w.word.result.now w.in-Err.bad _ _ _ w.write_refusal-told.result (sym c.read_request.ensures ∙ w.in-Err.is) w.word.ensures (sym w.told-is ∙ c.in-Ok-told.is) w.write_refusal-told.ensures.printed w.write_refusal-told.ensures.moments))
 ]

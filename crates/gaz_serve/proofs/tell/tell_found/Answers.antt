@@ -4,6 +4,7 @@ use Rattle.std.proofs.lemmas.List.{append-nil}
 use Rattle.gaz_outside.specs.Outside.{Prints, PrintsFront}
 use Rattle.gaz_outside.proofs.Runs.{areas_stay_on}
 use Rattle.gaz_reply.specs.Reply.{reply_text, rows, with_ends, end_line}
+use Rattle.gaz_reply.proofs.Cuts.{cut_in_first, cut_in_both, same_cut}
 use Rattle.gaz_reply.proofs.Pieces.{both, front}
 use Rattle.gaz_serve.proofs.tell.tell_found.Goals as goal
 
@@ -27,3 +28,13 @@ pub returns-in-Ok-clause-areas : goal.returns-in-Ok-clause-areas
 returns-in-Ok-clause-areas g c =
     areas_stay_on (g.T.Station.view c.args.station.now) (g.T.Station.view c.write_row.new.station) (g.T.Station.view c.write_end.new.station) c.in-Ok.ensures.told
     c.in-Ok.ensures.areas c.write_end.ensures.areas
+
+pub returns-in-Ok-clause-moments : goal.returns-in-Ok-clause-moments
+returns-in-Ok-clause-moments g c =
+    same_cut _ _ _ _ (one_row c.in-Some.line.now ∙ ap (λ l. reply_text (rows (option_to_list (option_copied l)))) (sym c.in-Some.is))
+    (cut_in_both (with_ends (c.in-Some.line.now ∷ [])) (with_ends (end_line 1 ∷ [])) _ _ _ c.in-Ok.ensures.told c.in-Ok.ensures.areas c.in-Ok.ensures.printed c.in-Ok.ensures.moments c.write_end.ensures.moments)
+
+pub returns-in-Err-clause-moments : goal.returns-in-Err-clause-moments
+returns-in-Err-clause-moments g c =
+    same_cut _ _ _ _ (one_row c.in-Some.line.now ∙ ap (λ l. reply_text (rows (option_to_list (option_copied l)))) (sym c.in-Some.is))
+    (cut_in_first (with_ends (c.in-Some.line.now ∷ [])) (with_ends (end_line 1 ∷ [])) _ _ c.in-Err.ensures.moments)
