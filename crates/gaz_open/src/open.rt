@@ -90,10 +90,12 @@ pub fn open_plain<T: Station>(alloc: Global, station: &mut T) -> Result<PlainMir
     ensures undefined { IsTrue (T.view station.old).is_told → mirror_in (T.view station.old).bytes ≡ None → IsErr result }
 
     // In pieces of 4,096 bytes: it reads at most eight for each slot to redo and eight more, one for the root page, and those
-    // of the text that this page names. It writes at most the slots and the gate, and nothing where nothing is to be redone.
+    // of the text that this page names. It writes at most the slots and the gate. Where nothing is to be redone it writes
+    // nothing: no byte and no outcome changes, at no moment.
     ensures reads { IsTrue (T.view station.old).is_told → (slots : ℕ) → SlotsToRedo (T.view station.old) slots
         → (T.view station.new).reads ≤ (T.view station.old).reads + 8 * (slots + 1) + (1 + content_pieces (content (T.view station.old).bytes)) }
     ensures writes { IsTrue (T.view station.old).is_told → (slots : ℕ) → SlotsToRedo (T.view station.old) slots → (T.view station.new).writes ≤ (T.view station.old).writes + slots + 1 }
+    ensures untouched { IsTrue (T.view station.old).is_told → NothingToRedo (T.view station.old).bytes → Confined SameBytes (T.view station.old) (T.view station.new) }
     ensures unwritten { IsTrue (T.view station.old).is_told → NothingToRedo (T.view station.old).bytes → (T.view station.new).writes ≡ (T.view station.old).writes }
     ensures counts { OnlyRise (T.view station.old) (T.view station.new) }
     ensures cause { FailsOnce (T.view station.old).faults (T.view station.new).faults result }

@@ -37,6 +37,7 @@ pub(crate) fn settle<T: Station>(station: &mut T) -> Result<bool, Failed>
     ensures printed { IsTrue (T.view station.old).is_told → (T.view station.new).printed ≡ (T.view station.old).printed }
     ensures reads { IsTrue (T.view station.old).is_told → (slots : ℕ) → SlotsToRedo (T.view station.old) slots → (T.view station.new).reads ≤ (T.view station.old).reads + 8 * (slots + 1) }
     ensures writes { IsTrue (T.view station.old).is_told → (slots : ℕ) → SlotsToRedo (T.view station.old) slots → (T.view station.new).writes ≤ (T.view station.old).writes + slots + 1 }
+    ensures untouched { IsTrue (T.view station.old).is_told → NothingToRedo (T.view station.old).bytes → Confined SameBytes (T.view station.old) (T.view station.new) }
     ensures unwritten { IsTrue (T.view station.old).is_told → NothingToRedo (T.view station.old).bytes → (T.view station.new).writes ≡ (T.view station.old).writes }
     ensures counts { OnlyRise (T.view station.old) (T.view station.new) }
     ensures cause { HasCause (T.view station.old).faults (T.view station.new).faults result }

@@ -1,5 +1,5 @@
 use Rattle.std.proofs.Common.{◌≡◌, arith, sym, Some, None, ◌∙◌}
-use Rattle.gaz_redo.proofs.Steps.{still}
+use Rattle.gaz_redo.proofs.Steps.{still, both_stay}
 use Rattle.gaz_plain.specs.Gazetteer.{Gazetteer}
 use Rattle.gaz_open.proofs.Opened.{no_log_no_gaz, while_read, fits_opened, read_settled, one_opened, has_none, holds_then, all_stable, reads_in_all, writes_in_all}
 use Rattle.gaz_open.proofs.open.open_plain.Goals as goal
@@ -161,3 +161,19 @@ returns-in-Ok-clause-stable g c told =
     let told1 = still v0.is_told v1.is_told c.settle.ensures.counts.told told in
     let settled = c.in-Ok-true.ensures.settled told c.in-Ok-true.field-0-test in
     all_stable v0 v1 v2 settled (c.read_mirror.ensures.stays told1)
+
+pub returns-in-Ok-clause-untouched : goal.returns-in-Ok-clause-untouched
+returns-in-Ok-clause-untouched g c told nothing =
+    let v0 = g.T.Station.view c.args.station.now in
+    let v1 = g.T.Station.view c.settle.new.station in
+    let v2 = g.T.Station.view c.read_mirror.new.station in
+    let told1 = still v0.is_told v1.is_told c.settle.ensures.counts.told told in
+    both_stay v0 v1 v2 (c.settle.ensures.untouched told nothing) (c.read_mirror.ensures.stays told1)
+
+pub returns-in-Err-read_mirror-clause-untouched : goal.returns-in-Err-read_mirror-clause-untouched
+returns-in-Err-read_mirror-clause-untouched g c told nothing =
+    let v0 = g.T.Station.view c.args.station.now in
+    let v1 = g.T.Station.view c.settle.new.station in
+    let v2 = g.T.Station.view c.read_mirror.new.station in
+    let told1 = still v0.is_told v1.is_told c.settle.ensures.counts.told told in
+    both_stay v0 v1 v2 (c.settle.ensures.untouched told nothing) (c.read_mirror.ensures.stays told1)

@@ -1,8 +1,8 @@
 use Rattle.std.proofs.Common.{arith, inr, subst}
 use Rattle.gaz_redo.specs.Recovered.{Tells, Means}
-use Rattle.gaz_redo.proofs.Steps.{still}
+use Rattle.gaz_redo.proofs.Steps.{still, both_stay}
 use Rattle.gaz_open.specs.Opens.{HasNoLog}
-use Rattle.gaz_open.proofs.Opened.{while_synced, while_recovered, settled_redone, same_form, same_slots}
+use Rattle.gaz_open.proofs.Opened.{while_synced, while_recovered, settled_redone, same_form, same_slots, same_nothing}
 use Rattle.gaz_open.proofs.settle.settle.Goals as goal
 
 pub returns-in_err-sync_all-clause-moments : goal.returns-in_err-sync_all-clause-moments
@@ -114,3 +114,35 @@ returns-in-Redone-clause-writes g c told slots redo =
     let synced = c.sync_all.ensures.counts.writes in
     let redone = c.recover.ensures.writes told1 slots (same_slots v0 v1 (c.sync_all.ensures.stays told) slots redo) in
     omega (arith, synced, redone)
+
+pub returns-in-Err-Failed-clause-untouched : goal.returns-in-Err-Failed-clause-untouched
+returns-in-Err-Failed-clause-untouched g c told nothing =
+    let v0 = g.T.Station.view c.args.station.now in
+    let v1 = g.T.Station.view c.sync_all.new.station in
+    let v2 = g.T.Station.view c.recover.new.station in
+    let told1 = still v0.is_told v1.is_told c.sync_all.ensures.counts.told told in
+    both_stay v0 v1 v2 (c.sync_all.ensures.stays told) (c.recover.ensures.untouched told1 (same_nothing v0 v1 (c.sync_all.ensures.stays told) nothing))
+
+pub returns-in-Clean-clause-untouched : goal.returns-in-Clean-clause-untouched
+returns-in-Clean-clause-untouched g c told nothing =
+    let v0 = g.T.Station.view c.args.station.now in
+    let v1 = g.T.Station.view c.sync_all.new.station in
+    let v2 = g.T.Station.view c.recover.new.station in
+    let told1 = still v0.is_told v1.is_told c.sync_all.ensures.counts.told told in
+    both_stay v0 v1 v2 (c.sync_all.ensures.stays told) (c.recover.ensures.untouched told1 (same_nothing v0 v1 (c.sync_all.ensures.stays told) nothing))
+
+pub returns-in-Redone-clause-untouched : goal.returns-in-Redone-clause-untouched
+returns-in-Redone-clause-untouched g c told nothing =
+    let v0 = g.T.Station.view c.args.station.now in
+    let v1 = g.T.Station.view c.sync_all.new.station in
+    let v2 = g.T.Station.view c.recover.new.station in
+    let told1 = still v0.is_told v1.is_told c.sync_all.ensures.counts.told told in
+    both_stay v0 v1 v2 (c.sync_all.ensures.stays told) (c.recover.ensures.untouched told1 (same_nothing v0 v1 (c.sync_all.ensures.stays told) nothing))
+
+pub returns-in-NotALog-clause-untouched : goal.returns-in-NotALog-clause-untouched
+returns-in-NotALog-clause-untouched g c told nothing =
+    let v0 = g.T.Station.view c.args.station.now in
+    let v1 = g.T.Station.view c.sync_all.new.station in
+    let v2 = g.T.Station.view c.recover.new.station in
+    let told1 = still v0.is_told v1.is_told c.sync_all.ensures.counts.told told in
+    both_stay v0 v1 v2 (c.sync_all.ensures.stays told) (c.recover.ensures.untouched told1 (same_nothing v0 v1 (c.sync_all.ensures.stays told) nothing))
