@@ -34,7 +34,7 @@ front_of_second first second before mid text whole front =
     )
 
 -- the first piece was printed whole, where bytes are told
-whole_text : (told_old told_mid : Bool) (before mid first : List ℕ) → IsTrue told_old → told_mid ≡ told_old → (if told_mid then Some mid else None) ≡ append_known (if told_old then Some before else None) first → mid ≡ before ++ first
+pub whole_text : (told_old told_mid : Bool) (before mid first : List ℕ) → IsTrue told_old → told_mid ≡ told_old → (if told_mid then Some mid else None) ≡ append_known (if told_old then Some before else None) first → mid ≡ before ++ first
 whole_text told_old told_mid before mid first told same whole =
     let known = subst (λ b. (if told_mid then Some mid else None) ≡ append_known (if b then Some before else None) first) told whole in
     text_in (subst (λ b. (if b then Some mid else None) ≡ Some (before ++ first)) (same ∙ told) known)
@@ -45,6 +45,10 @@ whole_text told_old told_mid before mid first told same whole =
 
     text_in : Some mid ≡ Some (before ++ first) → mid ≡ before ++ first
     text_in e = ap text_or e
+
+pub printed_whole : (piece : List ℕ) (old new : StationView) → IsTrue old.is_told → new.is_told ≡ old.is_told → printed_of new ≡ append_known (printed_of old) piece → new.printed ≡ old.printed ++ piece
+unfolding printed_of
+printed_whole piece old new told same whole = whole_text old.is_told new.is_told old.printed new.printed piece told same whole
 
 -- a first piece that failed
 pub cut_in_first : (first second : List ℕ) (old new : StationView) → MayBeCut first old new → MayBeCut (first ++ second) old new

@@ -1,5 +1,5 @@
 -- Pieces that are printed one behind the other.
-use Rattle.std.proofs.Common.{◌≡◌, ℕ, List, ◌++◌, refl, ap, ◌∙◌, sym, subst, append_assoc, Option, Some, None}
+use Rattle.std.proofs.Common.{◌≡◌, ℕ, List, [], ◌++◌, append-nil, refl, ap, ◌∙◌, sym, subst, append_assoc, Option, Some, None}
 use Rattle.std.specs.Prelude.{Result, Ok, Err}
 use Rattle.std.specs.Io.KnownBytes.{append_known}
 use Rattle.gaz_outside.specs.Outside.{StationView, Prints, PrintsFront, printed_of}
@@ -8,6 +8,11 @@ use Rattle.gaz_outside.specs.Outside.{StationView, Prints, PrintsFront, printed_
 pub append_two : (known : Option (List ℕ)) (xs ys : List ℕ) → append_known (append_known known xs) ys ≡ append_known known (xs ++ ys)
 append_two None xs ys = refl
 append_two (Some zs) xs ys = ap Some (append_assoc zs xs ys)
+
+-- nothing more behind what is known
+pub append_none : (known : Option (List ℕ)) → known ≡ append_known known []
+append_none None = refl
+append_none (Some xs) = ap Some (sym (append-nil xs))
 
 -- the second piece after a first that was printed whole
 pub both : {T E : Type 0} (first second : List ℕ) (old mid new : StationView) (result : Result T E) → printed_of mid ≡ append_known (printed_of old) first → Prints second mid new result → Prints (first ++ second) old new result

@@ -1,14 +1,26 @@
 -- What a run answered, and when all is met as it is defined.
-use Rattle.std.proofs.Common.{◌≡◌, ◌≢◌, ℕ, zero, suc, ◌+◌, ◌^◌, ◌<◌, ◌≤◌, Bool, false, cond, List, [], ◌∷◌, ◌++◌, refl, ap, arith, ◌⊎◌, inl, inr, Option, ◌∙◌, sym}
+use Rattle.std.proofs.Common.{◌≡◌, ◌≢◌, ℕ, zero, suc, ◌+◌, ◌^◌, ◌<◌, ◌≤◌, Bool, true, false, true≢false, IsTrue, cond, List, [], ◌∷◌, ◌++◌, refl, ap, arith, ◌⊎◌, inl, inr, Option, ◌∙◌, sym, subst}
 use Rattle.std.specs.Prelude.{map, count_by}
+use Rattle.std.specs.Io.KnownBytes.{append_known}
 use Rattle.std.proofs.lemmas.List.Sums.{sum_by-cons}
 use Rattle.std.proofs.lemmas.Bool.{false≢true}
 use Rattle.std.proofs.lemmas.List.{append-nil}
-use Rattle.gaz_outside.specs.Outside.{HasRisen, RisesOnce}
+use Rattle.gaz_outside.specs.Outside.{StationView, HasRisen, RisesOnce, printed_of}
+use Rattle.gaz_outside.specs.Station.{Confined, LeavesOnly}
+use Rattle.gaz_plain.specs.Gazetteer.{Gazetteer}
 use Rattle.gaz_plain.specs.Load.{Files}
-use Rattle.gaz_turns.specs.Turns.{Turn, Verdict, plain, memory, shelf, is_shelf, shelf_refusals}
-use Rattle.gaz_serve.specs.Ran.{is_memory, memory_refusals, plain_turn, asked, RisesBy, RunAnswers, IsAnswered}
-use Rattle.gaz_serve.proofs.Lines.{unread, append_none}
+use Rattle.gaz_redo.specs.Slots.{SameBytes}
+use Rattle.gaz_open.specs.Holds.{AllHold, IsStill}
+use Rattle.gaz_open.specs.Opens.{NothingToRedo}
+use Rattle.gaz_open.proofs.Opened.{same_nothing}
+use Rattle.gaz_reply.proofs.Pieces.{append_none}
+use Rattle.gaz_turns.specs.Turns.{State, Turn, Verdict, plain, memory, shelf, is_shelf, shelf_refusals}
+use Rattle.gaz_turns.specs.Head.{Keeps}
+use Rattle.gaz_turns.proofs.Told.{same_printed}
+use Rattle.gaz_turns.proofs.Underway.{from_open}
+use Rattle.gaz_serve.specs.Ran.{is_memory, memory_refusals, plain_turn, asked, RisesBy, IsUnwritten, RunAnswers, IsAnswered}
+use Rattle.gaz_serve.proofs.Lines.{unread}
+use Rattle.gaz_serve.proofs.Taken.{answered_nothing}
 
 -- one turn more is counted, where its verdict passes
 one_more : (test : Verdict → Bool) (line : List ℕ) (verdict : Verdict) (turns : List Turn) → count_by (λ turn. test turn.verdict) (record { line = line; verdict = verdict } ∷ turns) ≡ cond (test verdict) 1 0 + count_by (λ turn. test turn.verdict) turns
@@ -33,31 +45,54 @@ by_size (suc n) = inr (omega arith)
 no_refusals : (n before now : ℕ) → RisesBy n before now → (HasRisen before now → ⊥) → n ≡ 0
 no_refusals n before now rises still = elim (by_size n) [ inl none ↦ none | inr more ↦ absurd (still (omega (arith, rises, more))) ]
 
-module _ (files : Files) (bytes bytes_now : Option (List ℕ)) (source source_now shelf_faults shelf_now station station_now : ℕ) (printed printed_now : Option (List ℕ)) (status : ℕ) where
+module _ (first : State) (files : Files) (bytes bytes_now : Option (List ℕ)) (source source_now shelf_faults shelf_now : ℕ) (station station_now : StationView) (status : ℕ) where
   -- whether something failed
   abbrev Failed : Type 0
-  Failed = HasRisen source source_now ⊎ HasRisen shelf_faults shelf_now ⊎ HasRisen station station_now
+  Failed = HasRisen source source_now ⊎ HasRisen shelf_faults shelf_now ⊎ HasRisen station.faults station_now.faults
 
-  pub answered : RunAnswers files bytes bytes_now shelf_faults shelf_now printed printed_now status → (status ≡ 3 → RisesOnce station station_now) → (status ≡ 4 → RisesOnce source source_now) → (status ≡ 0) ⊎ (status ≡ 3) ⊎ (status ≡ 4) ⊎ (status ≡ 5) ⊎ (status ≡ 7) → IsAnswered files bytes bytes_now shelf_faults shelf_now printed printed_now Failed status
+  pub answered : RunAnswers first files bytes bytes_now shelf_faults shelf_now station station_now status → (status ≡ 3 → RisesOnce station.faults station_now.faults) → (status ≡ 4 → RisesOnce source source_now) → (status ≡ 0) ⊎ (status ≡ 3) ⊎ (status ≡ 4) ⊎ (status ≡ 5) ⊎ (status ≡ 6) ⊎ (status ≡ 7)
+      → IsAnswered first files bytes bytes_now shelf_faults shelf_now station station_now Failed status
   answered run three four others = record {
     run = run;
-    complete = λ quiet not_starved no_memory within. by_status quiet not_starved no_memory within others;
+    complete = λ quiet not_starved is_mirror no_memory within. by_status quiet not_starved is_mirror no_memory within others;
   }
     where
-      by_status : (Failed → ⊥) → status ≢ 5 → memory_refusals run.turns ≡ 0 → run.given.is_past ≡ false → (status ≡ 0) ⊎ (status ≡ 3) ⊎ (status ≡ 4) ⊎ (status ≡ 5) ⊎ (status ≡ 7) → (status ≡ 0) × (run.turns ≡ map plain_turn run.given.lines)
-      by_status quiet not_starved no_memory within (inl is) = (
+      by_status : (Failed → ⊥) → status ≢ 5 → status ≢ 6 → memory_refusals run.turns ≡ 0 → run.given.is_past ≡ false → (status ≡ 0) ⊎ (status ≡ 3) ⊎ (status ≡ 4) ⊎ (status ≡ 5) ⊎ (status ≡ 6) ⊎ (status ≡ 7) → (status ≡ 0) × (run.turns ≡ map plain_turn run.given.lines)
+      by_status quiet not_starved is_mirror no_memory within (inl is) = (
         is,
         all_plain run.turns (no_refusals (shelf_refusals run.turns) shelf_faults shelf_now run.causes (λ rose. quiet (inr (inl rose)))) no_memory
             ∙ ap (map plain_turn) (sym (run.lines_are ∙ ap (λ rest. asked run.turns ++ rest) (run.ended is).0 ∙ append-nil (asked run.turns))),
       )
-      by_status quiet not_starved no_memory within (inr (inl is)) = absurd (quiet (inr (inr (omega (arith, three is)))))
-      by_status quiet not_starved no_memory within (inr (inr (inl is))) = absurd (quiet (inl (omega (arith, four is))))
-      by_status quiet not_starved no_memory within (inr (inr (inr (inl is)))) = absurd (not_starved is)
-      by_status quiet not_starved no_memory within (inr (inr (inr (inr is)))) = absurd (false≢true (sym within ∙ (run.past is).1))
+      by_status quiet not_starved is_mirror no_memory within (inr (inl is)) = absurd (quiet (inr (inr (omega (arith, three is)))))
+      by_status quiet not_starved is_mirror no_memory within (inr (inr (inl is))) = absurd (quiet (inl (omega (arith, four is))))
+      by_status quiet not_starved is_mirror no_memory within (inr (inr (inr (inl is)))) = absurd (not_starved is)
+      by_status quiet not_starved is_mirror no_memory within (inr (inr (inr (inr (inl is))))) = absurd (is_mirror is)
+      by_status quiet not_starved is_mirror no_memory within (inr (inr (inr (inr (inr is))))) = absurd (false≢true (sym within ∙ (run.past is).1))
 
--- memory was wanting before the first line
-pub run_starved : (files : Files) (bytes bytes_now : Option (List ℕ)) (faults : ℕ) (printed : Option (List ℕ)) (status : ℕ) → faults < 2 ^ 64 → status ≡ 5 → RunAnswers files bytes bytes_now faults faults printed printed status
-run_starved files bytes bytes_now faults printed status fits five = record {
+none_one : (earlier : List Turn) (last : Turn) → [] ≡ earlier ++ last ∷ [] → ⊥
+none_one [] last is = true≢false (ap is_empty is)
+  where
+    is_empty : List Turn → Bool
+    is_empty [] = true
+    is_empty (t ∷ ts) = false
+none_one (t ∷ ts) last is = true≢false (ap is_empty is)
+  where
+    is_empty : List Turn → Bool
+    is_empty [] = true
+    is_empty (u ∷ us) = false
+
+-- the status of an opening that failed is no other
+pub unlike : {A : Type 0} (status n : ℕ) → (status ≡ 3) ⊎ (status ≡ 5) ⊎ (status ≡ 6) → status ≡ n → (n ≡ 3 → A) → (n ≡ 5 → A) → (n ≡ 6 → A) → A
+unlike status n (inl is) same three five six = three (omega (arith, is, same))
+unlike status n (inr (inl is)) same three five six = five (omega (arith, is, same))
+unlike status n (inr (inr is)) same three five six = six (omega (arith, is, same))
+
+-- no mirror opened, and no line was answered
+pub run_unopened : (first : State) (files : Files) (bytes : Option (List ℕ)) (faults : ℕ) (entry exit : StationView) (status : ℕ) → faults < 2 ^ 64 → (status ≡ 3) ⊎ (status ≡ 5) ⊎ (status ≡ 6) → printed_of exit ≡ printed_of entry
+    → (IsTrue entry.is_told → AllHold entry first.gaz → Keeps (record { first = first; files = files; turns = [] }) entry exit status)
+    → (IsTrue entry.is_told → NothingToRedo entry.bytes → IsUnwritten entry exit)
+    → RunAnswers first files bytes bytes faults faults entry exit status
+run_unopened first files bytes faults entry exit status fits why printed keeps unwritten = record {
   given = unread bytes;
   turns = [];
   unanswered = (unread bytes).lines;
@@ -65,25 +100,68 @@ run_starved files bytes bytes_now faults printed status fits five = record {
   legal = tt;
   causes = omega (arith, fits);
   text = [];
-  text_is = append_none printed;
+  text_is = printed ∙ append_none (printed_of entry);
   whole = λ is. refl;
-  cut = λ is. absurd (omega (arith, five, is));
-  ended = λ is. absurd (omega (arith, five, is));
-  past = λ is. absurd (omega (arith, five, is));
-  heard = λ is. absurd (omega (arith, five, is));
-  heard_before = λ is. absurd (omega (arith, five, is));
-  starved = λ is. refl;
+  cut = λ is. record { front = ([], refl); begun = λ earlier last same. absurd (none_one earlier last same) };
+  keeps = keeps;
+  unwritten = λ told nothing none. unwritten told nothing;
+  ended = λ is. unlike status 0 why is (λ e. absurd (omega (arith, e))) (λ e. absurd (omega (arith, e))) (λ e. absurd (omega (arith, e)));
+  past = λ is. unlike status 7 why is (λ e. absurd (omega (arith, e))) (λ e. absurd (omega (arith, e))) (λ e. absurd (omega (arith, e)));
+  heard = λ is. unlike status 4 why is (λ e. absurd (omega (arith, e))) (λ e. absurd (omega (arith, e))) (λ e. absurd (omega (arith, e)));
+  heard_before = λ is. answered_nothing 65536 0 bytes;
+  unanswering = λ is. refl;
 }
 
--- the statuses of a run, and that for want of memory
-pub with_starved : (status : ℕ) → (status ≡ 0) ⊎ (status ≡ 3) ⊎ (status ≡ 4) ⊎ (status ≡ 7) → (status ≡ 0) ⊎ (status ≡ 3) ⊎ (status ≡ 4) ⊎ (status ≡ 5) ⊎ (status ≡ 7)
-with_starved status (inl is) = inl is
-with_starved status (inr (inl is)) = inr (inl is)
-with_starved status (inr (inr (inl is))) = inr (inr (inl is))
-with_starved status (inr (inr (inr is))) = inr (inr (inr (inr is)))
+-- what an opening leaves
+pub record IsOpening (entry mid : StationView) : Type 0 where
+  pub told : mid.is_told ≡ entry.is_told
+  pub printed : IsTrue entry.is_told → mid.printed ≡ entry.printed
+  pub moments : IsTrue entry.is_told → (first : Gazetteer) → AllHold entry first → LeavesOnly entry mid (IsStill first entry)
+  pub untouched : IsTrue entry.is_told → NothingToRedo entry.bytes → Confined SameBytes entry mid
+  pub unwritten : IsTrue entry.is_told → NothingToRedo entry.bytes → mid.writes ≡ entry.writes
 
-pub not_five : (status : ℕ) → (status ≡ 0) ⊎ (status ≡ 3) ⊎ (status ≡ 4) ⊎ (status ≡ 7) → status ≢ 5
-not_five status (inl is) five = absurd (omega (arith, is, five))
-not_five status (inr (inl is)) five = absurd (omega (arith, is, five))
-not_five status (inr (inr (inl is))) five = absurd (omega (arith, is, five))
-not_five status (inr (inr (inr is))) five = absurd (omega (arith, is, five))
+-- a run that begins with an opening
+pub run_opened : (first : State) (files : Files) (bytes bytes_now : Option (List ℕ)) (faults faults_now : ℕ) (entry mid exit : StationView) (status : ℕ) → IsOpening entry mid → (IsTrue entry.is_told → AllHold mid first.gaz)
+    → RunAnswers first files bytes bytes_now faults faults_now mid exit status → RunAnswers first files bytes bytes_now faults faults_now entry exit status
+run_opened first files bytes bytes_now faults faults_now entry mid exit status opened holds run =
+    let still : IsTrue entry.is_told → IsTrue mid.is_told = λ told. subst (λ (b : Bool). IsTrue b) (sym opened.told) told in
+    record {
+      given = run.given;
+      turns = run.turns;
+      unanswered = run.unanswered;
+      lines_are = run.lines_are;
+      legal = run.legal;
+      causes = run.causes;
+      text = run.text;
+      text_is = run.text_is ∙ ap (λ known. append_known known run.text) (same_printed entry mid opened.told opened.printed);
+      whole = run.whole;
+      cut = run.cut;
+      keeps = λ told all. from_open files first.gaz entry mid exit run.turns status (opened.moments told first.gaz all) (opened.printed told) (run.keeps (still told) (holds told));
+      unwritten = λ told nothing none.
+          let same = opened.untouched told nothing in
+          let rest = run.unwritten (still told) (same_nothing entry mid same nothing) none in
+          record { bytes = λ a. rest.bytes a ∙ same.bytes a; writes = rest.writes ∙ opened.unwritten told nothing };
+      ended = run.ended;
+      past = run.past;
+      heard = run.heard;
+      heard_before = run.heard_before;
+      unanswering = run.unanswering;
+    }
+
+-- the statuses of a run, and those of an opening that failed
+pub with_unopened : (status : ℕ) → (status ≡ 0) ⊎ (status ≡ 3) ⊎ (status ≡ 4) ⊎ (status ≡ 7) → (status ≡ 0) ⊎ (status ≡ 3) ⊎ (status ≡ 4) ⊎ (status ≡ 5) ⊎ (status ≡ 6) ⊎ (status ≡ 7)
+with_unopened status (inl is) = inl is
+with_unopened status (inr (inl is)) = inr (inl is)
+with_unopened status (inr (inr (inl is))) = inr (inr (inl is))
+with_unopened status (inr (inr (inr is))) = inr (inr (inr (inr (inr is))))
+
+-- the run ended with none of these
+pub opened_status : {A : Type 0} (status : ℕ) → (status ≡ 0) ⊎ (status ≡ 3) ⊎ (status ≡ 4) ⊎ (status ≡ 7) → (status ≡ 5) ⊎ (status ≡ 6) → A
+opened_status status (inl is) (inl five) = absurd (omega (arith, is, five))
+opened_status status (inl is) (inr six) = absurd (omega (arith, is, six))
+opened_status status (inr (inl is)) (inl five) = absurd (omega (arith, is, five))
+opened_status status (inr (inl is)) (inr six) = absurd (omega (arith, is, six))
+opened_status status (inr (inr (inl is))) (inl five) = absurd (omega (arith, is, five))
+opened_status status (inr (inr (inl is))) (inr six) = absurd (omega (arith, is, six))
+opened_status status (inr (inr (inr is))) (inl five) = absurd (omega (arith, is, five))
+opened_status status (inr (inr (inr is))) (inr six) = absurd (omega (arith, is, six))

@@ -1,67 +1,54 @@
 -- Turns, one behind the other, and the run that they make.
-use Rattle.std.proofs.Common.{◌≡◌, ◌≢◌, ℕ, ◌+◌, ◌-◌, ◌^◌, ◌<◌, Bool, true, false, cond, List, [], ◌∷◌, ◌++◌, length, refl, ap, arith, Option, Some, None, append_assoc, length-append, ◌∙◌, sym, subst}
+use Rattle.std.proofs.Common.{◌≡◌, ◌≢◌, ⊎_elim, ℕ, ◌+◌, ◌-◌, ◌^◌, ◌<◌, ◌≤◌, Bool, true, false, IsTrue, cond, List, [], ◌∷◌, ◌++◌, length, refl, ap, arith, Option, Some, None, append_assoc, length-append, ◌∙◌, sym, subst}
 use Rattle.std.specs.Prelude.{option_map, codes, nat_lt, IfSome, Result, Ok, Err}
 use Rattle.std.specs.List.{AllByRecursion}
 use Rattle.std.specs.Io.KnownBytes.{append_known}
 use Rattle.std.proofs.lemmas.Grind.{common_steps}
 use Rattle.std.proofs.lemmas.List.{append-nil}
-use Rattle.gaz_outside.specs.Outside.{ShelfView, StationView, Prints, printed_of}
+use Rattle.gaz_outside.specs.declared.station.Area.{Area}
+use Rattle.gaz_outside.specs.Outside.{ShelfView, StationView, IsPrefix, Prints, printed_of}
+use Rattle.gaz_outside.specs.Station.{Outcome, Leaves, AreasStay}
+use Rattle.gaz_outside.proofs.Runs.{areas_stay_same, areas_stay_on}
 use Rattle.gaz_num.specs.Pieces.{lines_within, is_too_long}
 use Rattle.gaz_lines.specs.Lines.{IsLine, Rest, onto}
 use Rattle.gaz_lines.proofs.Pieces.{are_more, lines_are_lines}
 use Rattle.gaz_lines.proofs.Rests.{rest_with}
 use Rattle.gaz_lines.proofs.Told.{Told, told_line, told_too_long, told_end}
 use Rattle.gaz_plain.specs.Load.{Files}
-use Rattle.gaz_reply.specs.Reply.{reply_text, refused}
+use Rattle.gaz_reply.specs.Reply.{reply_text, refused, is_change}
 use Rattle.gaz_reply.specs.Tells.{MayBeCut}
-use Rattle.gaz_reply.proofs.Pieces.{append_two}
+use Rattle.gaz_reply.proofs.Pieces.{append_none, append_two}
+use Rattle.gaz_reply.proofs.Cuts.{printed_whole}
 use Rattle.gaz_num.specs.Refusal.{request}
+use Rattle.gaz_open.specs.Holds.{AllHold}
 use Rattle.gaz_words.specs.Grammar.{request_in}
 use Rattle.gaz_words.specs.declared.request.BadRequest.TheVariants.{Length}
-use Rattle.gaz_serve.proofs.Lines.{append_none}
-use Rattle.gaz_turns.specs.Turns.{answer_to_read, State, Turn, Verdict, plain, memory, shelf, at_first, answer_at, IsLegal, state_after, replies, is_shelf, shelf_refusals}
+use Rattle.gaz_turns.specs.Turns.{answer_to_read, State, Turn, Verdict, plain, memory, shelf, MayBe, answer_at, answer_by, IsLegal, state_after, replies, has_change, is_shelf, shelf_refusals}
+use Rattle.gaz_turns.specs.Head.{Keeps}
+use Rattle.gaz_turns.specs.Steps.{IsGiven}
+use Rattle.gaz_turns.proofs.Counted.{or_left, or_right}
+use Rattle.gaz_turns.proofs.Tallies.{legal_more, replies_more, state_more, asked_more, change_more}
+use Rattle.gaz_turns.proofs.Told.{told_given}
+use Rattle.gaz_turns.proofs.Underway.{IsUnderWay, starts, goes_on, ends_cut, ends_well}
 use Rattle.gaz_serve.specs.Step.{IsBlamed, OneStep}
 use Rattle.gaz_serve.specs.Serve.{Given}
-use Rattle.gaz_serve.specs.Ran.{asked, RisesBy, IsHeard, RunAnswers}
-
-state_after-append : (state : State) (files : Files) (turns more : List Turn) → state_after state files (turns ++ more) ≡ state_after (state_after state files turns) files more
-state_after-append state files [] more = refl
-state_after-append state files (turn ∷ turns) more = state_after-append (answer_at state files turn).state files turns more
-
-replies-append : (state : State) (files : Files) (turns more : List Turn) → replies state files (turns ++ more) ≡ replies state files turns ++ replies (state_after state files turns) files more
-replies-append state files [] more = refl
-replies-append state files (turn ∷ turns) more =
-    let next = answer_at state files turn in
-    ap (λ xs. reply_text next.reply ++ xs) (replies-append next.state files turns more)
-    ∙ sym (append_assoc (reply_text next.reply) (replies next.state files turns) (replies (state_after next.state files turns) files more))
-
-legal-append : (state : State) (files : Files) (turns more : List Turn) → IsLegal state files turns → IsLegal (state_after state files turns) files more → IsLegal state files (turns ++ more)
-legal-append state files [] more legal next = next
-legal-append state files (turn ∷ turns) more legal next = (legal.0, legal-append (answer_at state files turn).state files turns more legal.1 next)
+use Rattle.gaz_serve.specs.Ran.{asked, RisesBy, IsHeard, IsUnwritten, RunAnswers}
 
 shelf-append : (turns more : List Turn) → shelf_refusals (turns ++ more) ≡ shelf_refusals turns + shelf_refusals more
 shelf-append turns more = grind (arith, common_steps)
 
 -- Turns answered the lines that were given, and their replies were printed.
-pub record UnderWay (files : Files) (bytes : Option (List ℕ)) (now : Option Rest) (answered : ℕ) (state : State) (shelf_faults shelf_faults_now : ℕ) (printed printed_now : Option (List ℕ)) : Type 0 where
+pub record UnderWay (first : State) (files : Files) (bytes : Option (List ℕ)) (now : Option Rest) (answered : ℕ) (state : State) (shelf_faults shelf_faults_now : ℕ) (entry station : StationView) : Type 0 where
   pub turns : List Turn
   pub count : length turns ≡ answered
   pub are_lines : AllByRecursion IsLine (asked turns)
   pub told : IfSome bytes (λ text. Told 4096 (asked turns) now text)
-  pub legal : IsLegal at_first files turns
-  pub state_is : state ≡ state_after at_first files turns
+  pub legal : IsLegal first files turns
+  pub state_is : state ≡ state_after first files turns
   pub causes : RisesBy (shelf_refusals turns) shelf_faults shelf_faults_now
-  pub text_is : printed_now ≡ append_known printed (replies at_first files turns)
-
--- the replies with that of one more turn
-replies_more : (files : Files) (turns : List Turn) (turn : Turn) → replies at_first files (turns ++ turn ∷ []) ≡ replies at_first files turns ++ reply_text (answer_at (state_after at_first files turns) files turn).reply
-replies_more files turns turn =
-    replies-append at_first files turns (turn ∷ [])
-    ∙ ap (λ xs. replies at_first files turns ++ xs) (append-nil (reply_text (answer_at (state_after at_first files turns) files turn).reply))
-
-asked_more : (turns : List Turn) (turn : Turn) → asked (turns ++ turn ∷ []) ≡ asked turns ++ turn.line ∷ []
-asked_more [] turn = refl
-asked_more (first ∷ turns) turn = ap (λ lines. first.line ∷ lines) (asked_more turns turn)
+  pub text_is : printed_of station ≡ append_known (printed_of entry) (replies first files turns)
+  pub unwritten : has_change first files turns ≡ false → AreasStay entry station
+  pub keeps : IsTrue entry.is_told → AllHold entry first.gaz → IsUnderWay files first entry station state turns
 
 refused_one : (line : List ℕ) (verdict : Verdict) → shelf_refusals (record { line = line; verdict = verdict } ∷ []) ≡ cond (is_shelf verdict) 1 0
 refused_one line plain = refl
@@ -78,6 +65,24 @@ rises_more n before mid now (shelf file) old new rises is_old is_new blamed = le
 
 one_less : (turns : List Turn) (turn : Turn) (answered : ℕ) → length turns ≡ answered → answered ≡ length (turns ++ turn ∷ []) - 1
 one_less turns turn answered count = let more = length-append turns (turn ∷ []) in omega (arith, more, count)
+
+-- two lists that end in one element each
+but_last : (xs ys : List Turn) (x y : Turn) → xs ++ x ∷ [] ≡ ys ++ y ∷ [] → xs ≡ ys
+but_last xs ys x y is = sym (all_but xs x) ∙ ap front is ∙ all_but ys y
+  where
+    front : List Turn → List Turn
+    front [] = []
+    front (t ∷ []) = []
+    front (t ∷ u ∷ ts) = t ∷ front (u ∷ ts)
+
+    all_but : (ts : List Turn) (t : Turn) → front (ts ++ t ∷ []) ≡ ts
+    all_but [] t = refl
+    all_but (u ∷ []) t = refl
+    all_but (u ∷ w ∷ ts) t = ap (λ (l : List Turn). u ∷ l) (all_but (w ∷ ts) t)
+
+-- where the areas stay nothing is written
+pub unwritten_by : (old new : StationView) → IsTrue old.is_told → AreasStay old new → IsUnwritten old new
+unwritten_by old new is_told stay = record { bytes = λ a. (stay.each is_told a).bytes; writes = stay.unwritten }
 
 -- the lines that were asked and those that weren't, where they are told
 lines_given : (bytes : Option (List ℕ)) (lines : List (List ℕ)) (now : Option Rest) (past : Bool) → AllByRecursion IsLine lines → IfSome bytes (λ text. Told 4096 lines now text) → (given : Given bytes) × (unanswered : List (List ℕ)) × (given.lines ≡ lines ++ unanswered)
@@ -98,10 +103,10 @@ all_given (Some text) lines now past are told none =
       e.1,
     )
 
-module _ (files : Files) (bytes : Option (List ℕ)) (faults faults_now : ℕ) (printed printed_now : Option (List ℕ)) (now : Option Rest) (answered : ℕ) (state : State) (way : UnderWay files bytes now answered state faults faults_now printed printed_now) where
+module _ (first : State) (files : Files) (bytes : Option (List ℕ)) (faults faults_now : ℕ) (entry station : StationView) (now : Option Rest) (answered : ℕ) (state : State) (way : UnderWay first files bytes now answered state faults faults_now entry station) where
   -- the source ended, or goes on past the limit
-  pub run_ends : (status : ℕ) (past : Bool) (bytes_now : Option (List ℕ)) → IfSome now (λ rest. rest ≡ rest_with [] past) → status ≢ 3 → status ≢ 4 → status ≢ 5 → (status ≡ 0 → past ≡ false) → (status ≡ 7 → past ≡ true) → RunAnswers files bytes bytes_now faults faults_now printed printed_now status
-  run_ends status past bytes_now none not_cut not_failed not_starved ends passes =
+  pub run_ends : (status : ℕ) (past : Bool) (bytes_now : Option (List ℕ)) → IfSome now (λ rest. rest ≡ rest_with [] past) → status ≢ 3 → status ≢ 4 → status ≢ 5 → status ≢ 6 → (status ≡ 0 → past ≡ false) → (status ≡ 7 → past ≡ true) → RunAnswers first files bytes bytes_now faults faults_now entry station status
+  run_ends status past bytes_now none not_cut not_failed not_starved not_none ends passes =
       let all = all_given bytes (asked way.turns) now past way.are_lines way.told none in
       record {
         given = all.0;
@@ -110,7 +115,7 @@ module _ (files : Files) (bytes : Option (List ℕ)) (faults faults_now : ℕ) (
         lines_are = all.1;
         legal = way.legal;
         causes = way.causes;
-        text = replies at_first files way.turns;
+        text = replies first files way.turns;
         text_is = way.text_is;
         whole = λ is. refl;
         cut = λ is. absurd (not_cut is);
@@ -118,11 +123,13 @@ module _ (files : Files) (bytes : Option (List ℕ)) (faults faults_now : ℕ) (
         past = λ is. (refl, all.2 ∙ passes is);
         heard = λ is. absurd (not_failed is);
         heard_before = λ is. absurd (not_cut is);
-        starved = λ is. absurd (not_starved is);
+        keeps = λ is_told holds. ends_well files first entry station state way.turns status not_cut (way.keeps is_told holds);
+        unwritten = λ is_told nothing none. unwritten_by entry station is_told (way.unwritten none);
+        unanswering = λ either. ⊎_elim (λ is. absurd (not_starved is)) (λ is. absurd (not_none is)) either;
       }
 
   -- the source failed
-  pub run_fails : (status : ℕ) (bytes_now : Option (List ℕ)) → status ≡ 4 → IsHeard 0 bytes bytes_now answered → RunAnswers files bytes bytes_now faults faults_now printed printed_now status
+  pub run_fails : (status : ℕ) (bytes_now : Option (List ℕ)) → status ≡ 4 → IsHeard 0 bytes bytes_now answered → RunAnswers first files bytes bytes_now faults faults_now entry station status
   run_fails status bytes_now four heard =
       let some = lines_given bytes (asked way.turns) now false way.are_lines way.told in
       record {
@@ -132,7 +139,7 @@ module _ (files : Files) (bytes : Option (List ℕ)) (faults faults_now : ℕ) (
         lines_are = some.2;
         legal = way.legal;
         causes = way.causes;
-        text = replies at_first files way.turns;
+        text = replies first files way.turns;
         text_is = way.text_is;
         whole = λ is. refl;
         cut = λ is. absurd (omega (arith, four, is));
@@ -140,77 +147,106 @@ module _ (files : Files) (bytes : Option (List ℕ)) (faults faults_now : ℕ) (
         past = λ is. absurd (omega (arith, four, is));
         heard = λ is. subst (IsHeard 0 bytes bytes_now) (sym way.count) heard;
         heard_before = λ is. absurd (omega (arith, four, is));
-        starved = λ is. absurd (omega (arith, four, is));
+        keeps = λ is_told holds. ends_well files first entry station state way.turns status (λ is. absurd (omega (arith, four, is))) (way.keeps is_told holds);
+        unwritten = λ is_told nothing none. unwritten_by entry station is_told (way.unwritten none);
+        unanswering = λ either. ⊎_elim (λ is. absurd (omega (arith, four, is))) (λ is. absurd (omega (arith, four, is))) either;
       }
 
-  module _ {E : Type 0} (line : List ℕ) (is_line : IsLine line) (later : Option Rest) (told : IfSome bytes (λ text. Told 4096 (asked way.turns ++ line ∷ []) later text)) (state_now : State) (before after : ShelfView) (station station_now : StationView) (is_old : before.faults ≡ faults_now) (is_printed : printed_of station ≡ printed_now) where
-    -- one more line is answered
-    pub next_way : (m : ℕ) → m ≡ answered + 1 → OneStep {A = Unit {0}} {E = E} files line state state_now before after station station_now (Ok tt) → UnderWay files bytes later m state_now faults after.faults printed (printed_of station_now)
-    next_way m one_more first_step =
-        let step = subst (λ s. OneStep {A = Unit {0}} {E = E} files line s state_now before after station station_now (Ok tt)) way.state_is first_step in
-        let turn : Turn = record { line = line; verdict = step.verdict } in
-        let next = state_after at_first files way.turns in
-        record {
-          turns = way.turns ++ turn ∷ [];
-          count = (let more = length-append way.turns (turn ∷ []) in let count = way.count in omega (arith, more, count, one_more));
-          are_lines = subst (λ lines. AllByRecursion IsLine lines) (sym (asked_more way.turns turn)) (are_more (asked way.turns) (line ∷ []) way.are_lines (is_line, tt));
-          told = subst (λ lines. IfSome bytes (λ text. Told 4096 lines later text)) (sym (asked_more way.turns turn)) told;
-          legal = legal-append at_first files way.turns (turn ∷ []) way.legal (step.may, tt);
-          state_is = step.state_is ∙ sym (state_after-append at_first files way.turns (turn ∷ []));
-          causes = subst (λ n. RisesBy n faults after.faults) (sym (refused_more way.turns turn)) (rises_more (shelf_refusals way.turns) faults faults_now after.faults step.verdict before after way.causes is_old refl step.blamed);
-          text_is =
-              step.printed
-              ∙ ap (λ known. append_known known (reply_text (answer_at next files turn).reply)) (is_printed ∙ way.text_is)
-              ∙ append_two printed (replies at_first files way.turns) (reply_text (answer_at next files turn).reply)
-              ∙ ap (append_known printed) (sym (replies_more files way.turns turn));
-        }
+  module _ (line : List ℕ) (is_line : IsLine line) (later : Option Rest) (told : IfSome bytes (λ text. Told 4096 (asked way.turns ++ line ∷ []) later text)) (state_now : State) (before after : ShelfView) (station_now : StationView) (is_old : before.faults ≡ faults_now)
+      (still : station.is_told ≡ entry.is_told) (still_now : station_now.is_told ≡ station.is_told) (stay : (a : Area) → IsTrue station.is_told → station.may_leave a (station.bytes a))
+    where
+      is_told_on : IsTrue entry.is_told → IsTrue station.is_told
+      is_told_on is_told = subst (λ (b : Bool). IsTrue b) (sym still) is_told
 
-    -- the reply of one more line is cut
-    pub run_cut : (status : ℕ) (bytes_now : Option (List ℕ)) → status ≡ 3 → IsHeard 65536 bytes bytes_now answered → (failed : E) → OneStep {A = Unit {0}} {E = E} files line state state_now before after station station_now (Err failed) → RunAnswers files bytes bytes_now faults after.faults printed (printed_of station_now) status
-    run_cut status bytes_now three heard failed first_step =
-        let step = subst (λ s. OneStep {A = Unit {0}} {E = E} files line s state_now before after station station_now (Err failed)) way.state_is first_step in
-        let turn : Turn = record { line = line; verdict = step.verdict } in
-        let next = state_after at_first files way.turns in
-        let front = step.printed.0 in
-        let some = lines_given bytes (asked way.turns ++ line ∷ []) later false (are_more (asked way.turns) (line ∷ []) way.are_lines (is_line, tt)) told in
-        record {
-          given = some.0;
-          turns = way.turns ++ turn ∷ [];
-          unanswered = some.1;
-          lines_are = some.2 ∙ ap (λ lines. lines ++ some.1) (sym (asked_more way.turns turn));
-          legal = legal-append at_first files way.turns (turn ∷ []) way.legal (step.may, tt);
-          causes = subst (λ n. RisesBy n faults after.faults) (sym (refused_more way.turns turn)) (rises_more (shelf_refusals way.turns) faults faults_now after.faults step.verdict before after way.causes is_old refl step.blamed);
-          text = replies at_first files way.turns ++ front;
-          text_is =
-              step.printed.2
-              ∙ ap (λ known. append_known known front) (is_printed ∙ way.text_is)
-              ∙ append_two printed (replies at_first files way.turns) front;
-          whole = λ other. absurd (other three);
-          cut = λ is. record {
-            earlier = way.turns;
-            last = turn;
-            are = refl;
-            begun = (front, refl);
-            front = (step.printed.1.0, replies_more files way.turns turn ∙ ap (λ xs. replies at_first files way.turns ++ xs) step.printed.1.1 ∙ sym (append_assoc (replies at_first files way.turns) front step.printed.1.0));
-          };
-          ended = λ is. absurd (omega (arith, three, is));
-          past = λ is. absurd (omega (arith, three, is));
-          heard = λ is. absurd (omega (arith, three, is));
-          heard_before = λ is. subst (IsHeard 65536 bytes bytes_now) (one_less way.turns turn answered way.count) heard;
-          starved = λ is. absurd (omega (arith, three, is));
-        }
+      -- no area is written where the turns so far, and this one, make no change
+      unwritten_on : (verdict : Verdict) → (is_change (answer_by verdict state files line).reply ≡ false → AreasStay station station_now) → has_change first files (way.turns ++ (record { line = line; verdict = verdict }) ∷ []) ≡ false → AreasStay entry station_now
+      unwritten_on verdict stays none =
+          let turn : Turn = record { line = line; verdict = verdict } in
+          let split = sym (change_more first files way.turns turn) ∙ none in
+          areas_stay_on entry station station_now still (way.unwritten (or_left _ _ split))
+          (stays (subst (λ (s : State). is_change (answer_at s files turn).reply ≡ false) (sym way.state_is) (or_right _ _ split)))
+
+      -- one more line is answered
+      pub next_way : {E : Type 0} (m : ℕ) → m ≡ answered + 1 → OneStep {A = Unit {0}} {E = E} files line state state_now before after station station_now (Ok tt) → UnderWay first files bytes later m state_now faults after.faults entry station_now
+      next_way {E = E} m one_more step =
+          let turn : Turn = record { line = line; verdict = step.verdict } in
+          let reply = reply_text (answer_at state files turn).reply in
+          record {
+            turns = way.turns ++ turn ∷ [];
+            count = (let more = length-append way.turns (turn ∷ []) in let count = way.count in omega (arith, more, count, one_more));
+            are_lines = subst (λ lines. AllByRecursion IsLine lines) (sym (asked_more way.turns turn)) (are_more (asked way.turns) (line ∷ []) way.are_lines (is_line, tt));
+            told = subst (λ lines. IfSome bytes (λ text. Told 4096 lines later text)) (sym (asked_more way.turns turn)) told;
+            legal = legal_more first files way.turns turn way.legal (subst (λ (s : State). MayBe step.verdict s files line) way.state_is step.may);
+            state_is = step.given.state_is ∙ ap (λ (s : State). (answer_at s files turn).state) way.state_is ∙ sym (state_more first files way.turns turn);
+            causes = subst (λ n. RisesBy n faults after.faults) (sym (refused_more way.turns turn)) (rises_more (shelf_refusals way.turns) faults faults_now after.faults step.verdict before after way.causes is_old refl step.blamed);
+            text_is =
+                step.given.printed
+                ∙ ap (λ known. append_known known reply) way.text_is
+                ∙ append_two (printed_of entry) (replies first files way.turns) reply
+                ∙ ap (λ (s : State). append_known (printed_of entry) (replies first files way.turns ++ reply_text (answer_at s files turn).reply)) way.state_is
+                ∙ ap (append_known (printed_of entry)) (sym (replies_more first files way.turns turn));
+            unwritten = λ none. unwritten_on step.verdict step.given.stays none;
+            keeps = λ is_told holds.
+                let run = way.keeps is_told holds in
+                let here = is_told_on is_told in
+                goes_on files first entry station station_now state way.turns turn run (λ a. stay a here) (step.given.moments here run.holds) state_now
+                (printed_whole reply station station_now here still_now step.given.printed) (step.given.holds here run.holds) step.given.state_is;
+          }
+
+      -- the reply of one more line is cut
+      pub run_cut : {E : Type 0} → ((a : Area) → IsTrue station_now.is_told → station_now.may_leave a (station_now.bytes a)) → ((t : ℕ) (c : Outcome) → IsTrue station_now.is_told → t ≤ station_now.moment → Leaves station_now c → station_now.left_since t c)
+          → (status : ℕ) (bytes_now : Option (List ℕ)) → status ≡ 3 → IsHeard 65536 bytes bytes_now answered → (failed : E) → OneStep {A = Unit {0}} {E = E} files line state state_now before after station station_now (Err failed) → RunAnswers first files bytes bytes_now faults after.faults entry station_now status
+      run_cut stay_now counts status bytes_now three heard failed step =
+          let turn : Turn = record { line = line; verdict = step.verdict } in
+          let front = step.given.printed.0 in
+          let some = lines_given bytes (asked way.turns ++ line ∷ []) later false (are_more (asked way.turns) (line ∷ []) way.are_lines (is_line, tt)) told in
+          let reply_on : replies first files (way.turns ++ turn ∷ []) ≡ replies first files way.turns ++ reply_text (answer_at state files turn).reply =
+          replies_more first files way.turns turn ∙ ap (λ (s : State). replies first files way.turns ++ reply_text (answer_at s files turn).reply) (sym way.state_is) in
+          record {
+            given = some.0;
+            turns = way.turns ++ turn ∷ [];
+            unanswered = some.1;
+            lines_are = some.2 ∙ ap (λ lines. lines ++ some.1) (sym (asked_more way.turns turn));
+            legal = legal_more first files way.turns turn way.legal (subst (λ (s : State). MayBe step.verdict s files line) way.state_is step.may);
+            causes = subst (λ n. RisesBy n faults after.faults) (sym (refused_more way.turns turn)) (rises_more (shelf_refusals way.turns) faults faults_now after.faults step.verdict before after way.causes is_old refl step.blamed);
+            text = replies first files way.turns ++ front;
+            text_is =
+                step.given.printed.2
+                ∙ ap (λ known. append_known known front) way.text_is
+                ∙ append_two (printed_of entry) (replies first files way.turns) front;
+            whole = λ other. absurd (other three);
+            cut = λ is. record {
+              front = (step.given.printed.1.0, reply_on ∙ ap (λ xs. replies first files way.turns ++ xs) step.given.printed.1.1 ∙ sym (append_assoc (replies first files way.turns) front step.given.printed.1.0));
+              begun = λ earlier last same. subst (λ (ts : List Turn). IsPrefix (replies first files ts) (replies first files way.turns ++ front)) (but_last way.turns earlier turn last same) (front, refl);
+            };
+            keeps = λ is_told holds.
+                let run = way.keeps is_told holds in
+                let here = is_told_on is_told in
+                let now = subst (λ (b : Bool). IsTrue b) (sym still_now) here in
+                subst (λ (n : ℕ). Keeps (record { first = first; files = files; turns = way.turns ++ turn ∷ [] }) entry station_now n) (sym three)
+                (ends_cut files first entry station station_now state way.turns turn run (λ a. stay a here) (step.given.moments here run.holds) (λ a. stay_now a now) (λ t c le leaves. counts t c now le leaves));
+            unwritten = λ is_told nothing none. unwritten_by entry station_now is_told (unwritten_on step.verdict step.given.stays none);
+            ended = λ is. absurd (omega (arith, three, is));
+            past = λ is. absurd (omega (arith, three, is));
+            heard = λ is. absurd (omega (arith, three, is));
+            heard_before = λ is. subst (IsHeard 65536 bytes bytes_now) (one_less way.turns turn answered way.count) heard;
+            unanswering = λ either. ⊎_elim (λ is. absurd (omega (arith, three, is))) (λ is. absurd (omega (arith, three, is))) either;
+          }
 
 -- before the first line
-pub way_first : (files : Files) (bytes : Option (List ℕ)) (now : Option Rest) (answered : ℕ) (state : State) (faults : ℕ) (printed : Option (List ℕ)) → faults < 2 ^ 64 → answered ≡ 0 → state ≡ at_first → IfSome bytes (λ text. Told 4096 [] now text) → UnderWay files bytes now answered state faults faults printed printed
-way_first files bytes now answered state faults printed fits none first told = record {
+pub way_first : (first : State) (files : Files) (bytes : Option (List ℕ)) (now : Option Rest) (answered : ℕ) (faults : ℕ) (entry : StationView) → faults < 2 ^ 64 → answered ≡ 0 → ((c : Outcome) → IsTrue entry.is_told → entry.left_since entry.moment c → Leaves entry c)
+    → IfSome bytes (λ text. Told 4096 [] now text) → UnderWay first files bytes now answered first faults faults entry entry
+way_first first files bytes now answered faults entry fits none only told = record {
   turns = [];
   count = sym none;
   are_lines = tt;
   told = told;
   legal = tt;
-  state_is = first;
+  state_is = refl;
   causes = omega (arith, fits);
-  text_is = append_none printed;
+  text_is = append_none (printed_of entry);
+  unwritten = λ none. areas_stay_same entry;
+  keeps = λ is_told holds. starts files first entry (λ c left. only c is_told left) holds;
 }
 
 -- a line that is too long is refused by the grammar
@@ -218,14 +254,14 @@ long_request : (line : List ℕ) → 4096 < length line → request_in line ≡ 
 unfolding request_in
 long_request line long = let more : nat_lt 4096 (length line) ≡ true = grind (arith, common_steps) in rw more refl
 
-pub long_step : {E : Type 0} (files : Files) (line : List ℕ) (state : State) (view : ShelfView) (station station_now : StationView) (result : Result (Unit {0}) E) → 4096 < length line → Prints (reply_text (refused (request (codes "length")))) station station_now result → MayBeCut (reply_text (refused (request (codes "length")))) station station_now → OneStep files line state state view view station station_now result
-long_step files line state view station station_now result long printed cut = record {
+pub long_step : {E : Type 0} (files : Files) (line : List ℕ) (state : State) (view : ShelfView) (station station_now : StationView) (result : Result (Unit {0}) E) → ((c : Outcome) → IsTrue station.is_told → station.left_since station.moment c → Leaves station c)
+    → 4096 < length line → Prints (reply_text (refused (request (codes "length")))) station station_now result → MayBeCut (reply_text (refused (request (codes "length")))) station station_now → AreasStay station station_now → OneStep files line state state view view station station_now result
+long_step files line state view station station_now result only long printed cut stay = record {
   verdict = plain;
   may = tt;
   blamed = record { faults = refl; last = refl };
-  printed = subst (λ r. Prints (reply_text (answer_to_read state files r).reply) station station_now result) (sym (long_request line long)) printed;
-  cut = subst (λ r. MayBeCut (reply_text (answer_to_read state files r).reply) station station_now) (sym (long_request line long)) cut;
-  state_is = sym (ap (λ r. (answer_to_read state files r).state) (long_request line long));
+  given = subst (λ r. IsGiven (answer_to_read state files r) state state station station_now result) (sym (long_request line long))
+      (told_given state (refused (request (codes "length"))) station station_now result only printed cut stay);
 }
 
 -- one more line was given, where the bytes are told

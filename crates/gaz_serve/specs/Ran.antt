@@ -1,10 +1,15 @@
 -- How a run of requests may end.
-use Rattle.std.specs.Prelude.{◌≡◌, ◌≢◌, ◌≤◌, ℕ, length, ◌+◌, ◌-◌, ◌^◌, ◌⊎◌, min, Bool, true, false, List, [], ◌∷◌, ◌++◌, map, count_by, Option, IfSome}
+use Rattle.std.specs.Prelude.{◌≡◌, ◌≢◌, ◌≤◌, ℕ, length, ◌+◌, ◌-◌, ◌^◌, ◌⊎◌, min, Bool, true, false, List, [], ◌∷◌, ◌++◌, map, count_by, Option, None, IfSome, IsTrue, unwrap_or}
 use Rattle.std.specs.Io.KnownBytes.{append_known}
+use Rattle.gaz_outside.specs.declared.station.Area.{Area}
 use Rattle.gaz_outside.specs.Outside.{SourceView, ShelfView, StationView, SameFiles, HasRisen, RisesOnce, SameNumbers, IsPrefix, left_of, files_of, printed_of}
-use Rattle.gaz_outside.specs.Station.{AreasStay}
+use Rattle.gaz_plain.specs.Gazetteer.{empty}
 use Rattle.gaz_plain.specs.Load.{Files}
-use Rattle.gaz_turns.specs.Turns.{Turn, Verdict, plain, memory, shelf, at_first, IsLegal, replies, shelf_refusals}
+use Rattle.gaz_open.specs.Content.{mirror_in}
+use Rattle.gaz_open.specs.Holds.{AllHold}
+use Rattle.gaz_open.specs.Opens.{NothingToRedo}
+use Rattle.gaz_turns.specs.Turns.{State, Turn, Verdict, plain, memory, shelf, IsLegal, replies, has_change, shelf_refusals}
+use Rattle.gaz_turns.specs.Head.{Keeps}
 use Rattle.gaz_num.specs.Pieces.{ended_lines}
 use Rattle.gaz_serve.specs.Change.{NoneOpen}
 use Rattle.gaz_serve.specs.Serve.{Given, Taken}
@@ -31,34 +36,40 @@ asked turns = map (λ turn. turn.line) turns
 abbrev pub RisesBy : ℕ → ℕ → ℕ → Type 0
 RisesBy n before now = now ≡ min (before + n) (2 ^ 64 - 1)
 
--- The text has all replies but the last, and a front of that one.
-pub record IsCut (files : Files) (turns : List Turn) (text : List ℕ) : Type 0 where
-  pub earlier : List Turn
-  pub last : Turn
-  pub are : turns ≡ earlier ++ last ∷ []
-  pub begun : IsPrefix (replies at_first files earlier) text
-  pub front : IsPrefix text (replies at_first files turns)
+-- The text is a front of the replies, and at most the last reply is cut.
+pub record IsCut (first : State) (files : Files) (turns : List Turn) (text : List ℕ) : Type 0 where
+  pub front : IsPrefix text (replies first files turns)
+  pub begun : (earlier : List Turn) (last : Turn) → turns ≡ earlier ++ last ∷ [] → IsPrefix (replies first files earlier) text
+
+-- Each area has the bytes that it had, and no piece was written.
+pub record IsUnwritten (old new : StationView) : Type 0 where
+  pub bytes : (a : Area) → new.bytes a ≡ old.bytes a
+  pub writes : new.writes ≡ old.writes
 
 -- So many lines were answered, and when the source was asked the last time, no more lines that an LF ends had been taken.
 pub record IsHeard (room : ℕ) (old new : Option (List ℕ)) (answered : ℕ) : Type 0 where
   pub taken : Taken room old new
   pub enough : length (ended_lines taken.front) ≤ answered
 
--- Turns from the empty gazetteer on, each met as it may be, answer the first of the lines that the source gives,
--- and their replies were printed.
-pub record RunAnswers (files : Files) (bytes bytes_now : Option (List ℕ)) (shelf_faults shelf_faults_now : ℕ) (printed printed_now : Option (List ℕ)) (status : ℕ) : Type 0 where
+-- Turns from a first state on, each met as it may be, answer the first of the lines that the source gives, and their replies
+-- were printed. At every stop and at the exit the areas have what the printed text acknowledges.
+pub record RunAnswers (first : State) (files : Files) (bytes bytes_now : Option (List ℕ)) (shelf_faults shelf_faults_now : ℕ) (station station_now : StationView) (status : ℕ) : Type 0 where
   pub given : Given bytes
   pub turns : List Turn
   pub unanswered : List (List ℕ)
   pub lines_are : given.lines ≡ asked turns ++ unanswered
-  pub legal : IsLegal at_first files turns
+  pub legal : IsLegal first files turns
   -- the shelf failed as often as it refused
   pub causes : RisesBy (shelf_refusals turns) shelf_faults shelf_faults_now
   pub text : List ℕ
-  pub text_is : printed_now ≡ append_known printed text
-  -- With another status than 3 all replies were printed, and with 3 the last is cut.
-  pub whole : status ≢ 3 → text ≡ replies at_first files turns
-  pub cut : status ≡ 3 → IsCut files turns text
+  pub text_is : printed_of station_now ≡ append_known (printed_of station) text
+  -- With another status than 3 all replies were printed, and with 3 at most the last is cut.
+  pub whole : status ≢ 3 → text ≡ replies first files turns
+  pub cut : status ≡ 3 → IsCut first files turns text
+  -- Where all outcomes of the moment of entry have the first gazetteer: every stop, and the exit.
+  pub keeps : IsTrue station.is_told → AllHold station first.gaz → Keeps (record { first = first; files = files; turns = turns }) station station_now status
+  -- Where no change was made, and none of an earlier run was to be redone, no area is written.
+  pub unwritten : IsTrue station.is_told → NothingToRedo station.bytes → has_change first files turns ≡ false → IsUnwritten station station_now
   -- With 0 and 7 all lines were answered, with 7 where the source goes on past the limit.
   pub ended : status ≡ 0 → (unanswered ≡ []) × (given.is_past ≡ false)
   pub past : status ≡ 7 → (unanswered ≡ []) × (given.is_past ≡ true)
@@ -66,27 +77,45 @@ pub record RunAnswers (files : Files) (bytes bytes_now : Option (List ℕ)) (she
   -- with 3 it then gave a piece of at most 65,536 bytes.
   pub heard : status ≡ 4 → IsHeard 0 bytes bytes_now (length turns)
   pub heard_before : status ≡ 3 → IsHeard 65536 bytes bytes_now (length turns - 1)
-  pub starved : status ≡ 5 → turns ≡ []
+  -- With 5 and 6 no line was answered.
+  pub unanswering : (status ≡ 5) ⊎ (status ≡ 6) → turns ≡ []
 
--- So the run answered, and where nothing failed, no memory was wanting and the source is within the limit, each of its lines
--- was met as it is defined.
-pub record IsAnswered (files : Files) (bytes bytes_now : Option (List ℕ)) (shelf_faults shelf_faults_now : ℕ) (printed printed_now : Option (List ℕ)) (failed : Type 0) (status : ℕ) : Type 0 where
-  pub run : RunAnswers files bytes bytes_now shelf_faults shelf_faults_now printed printed_now status
-  pub complete : (failed → ⊥) → status ≢ 5 → memory_refusals run.turns ≡ 0 → run.given.is_past ≡ false →
+-- So the run answered, and where nothing failed, no memory was wanting, the areas are a mirror and the source is within the
+-- limit, each of its lines was met as it is defined.
+pub record IsAnswered (first : State) (files : Files) (bytes bytes_now : Option (List ℕ)) (shelf_faults shelf_faults_now : ℕ) (station station_now : StationView) (failed : Type 0) (status : ℕ) : Type 0 where
+  pub run : RunAnswers first files bytes bytes_now shelf_faults shelf_faults_now station station_now status
+  pub complete : (failed → ⊥) → status ≢ 5 → status ≢ 6 → memory_refusals run.turns ≡ 0 → run.given.is_past ≡ false →
       (status ≡ 0) × (run.turns ≡ map plain_turn run.given.lines)
+
+-- the state of a mirror with these areas, at first where they are none
+abbrev pub state_in : (Area → List ℕ) → State
+state_in areas = record { gaz = unwrap_or (mirror_in areas) empty }
+
+-- No mirror opened: the station failed, memory was wanting or the areas are no mirror. The source and the shelf weren't called,
+-- and nothing was printed.
+pub record IsUnopened {S F : Type 0} (old_source new_source : S) (old_shelf new_shelf : F) (station station_now : StationView) (status : ℕ) : Type 0 where
+  pub why : (status ≡ 3) ⊎ (status ≡ 5) ⊎ (status ≡ 6)
+  pub source : new_source ≡ old_source
+  pub shelf : new_shelf ≡ old_shelf
+  pub printed : printed_of station_now ≡ printed_of station
 
 -- A run of `serve` over a source, a shelf and a station: what it did to them, as their views tell it, and its status.
 pub record ServeRan {S F T : Type 0} (source : S → SourceView) (shelf : F → ShelfView) (station : T → StationView) (old_source new_source : S) (old_shelf new_shelf : F) (old_station new_station : T) (status : ℕ) : Type 0 where
+  -- the state at entry: that of the areas as they read, where bytes are told
+  pub first : State
+  pub first_is : IsTrue (station old_station).is_told → first ≡ state_in (station old_station).bytes
   pub answers : IfSome (files_of (shelf old_shelf)) (λ files.
-      IsAnswered files (left_of (source old_source)) (left_of (source new_source)) (shelf old_shelf).faults (shelf new_shelf).faults (printed_of (station old_station)) (printed_of (station new_station))
+      IsAnswered first files (left_of (source old_source)) (left_of (source new_source)) (shelf old_shelf).faults (shelf new_shelf).faults (station old_station) (station new_station)
       (HasRisen (source old_source).faults (source new_source).faults ⊎ HasRisen (shelf old_shelf).faults (shelf new_shelf).faults ⊎ HasRisen (station old_station).faults (station new_station).faults)
       status)
+  -- With 6 the areas are no mirror. Where they are none, none opens.
+  pub none : status ≡ 6 → IsTrue (station old_station).is_told → mirror_in (station old_station).bytes ≡ None
+  pub undefined : IsTrue (station old_station).is_told → mirror_in (station old_station).bytes ≡ None → IsUnopened old_source new_source old_shelf new_shelf (station old_station) (station new_station) status
+  pub unopened : (status ≡ 5) ⊎ (status ≡ 6) → IsUnopened old_source new_source old_shelf new_shelf (station old_station) (station new_station) status
   -- With 0 nothing is left.
   pub emptied : status ≡ 0 → IfSome (left_of (source new_source)) (λ bytes. bytes ≡ [])
   -- At most 2^40 bytes of the source were taken, and then one piece of at most 65,536.
   pub taken : Taken 65536 (left_of (source old_source)) (left_of (source new_source))
-  -- With 5 nothing was called.
-  pub untouched : status ≡ 5 → (new_source ≡ old_source) × (new_shelf ≡ old_shelf) × (new_station ≡ old_station)
   pub same : SameFiles (shelf old_shelf) (shelf new_shelf)
   -- No file is left open by a request.
   pub numbers : SameNumbers (shelf old_shelf) (shelf new_shelf) ⊎ NoneOpen (shelf new_shelf)
@@ -96,6 +125,4 @@ pub record ServeRan {S F T : Type 0} (source : S → SourceView) (shelf : F → 
   pub source_failed : status ≡ 4 → RisesOnce (source old_source).faults (source new_source).faults
   pub source_kept : status ≢ 4 → (source new_source).faults ≡ (source old_source).faults
   pub told : (station new_station).is_told ≡ (station old_station).is_told
-  -- Each area stays as it was, with what a stop may leave of it.
-  pub areas : AreasStay (station old_station) (station new_station)
-  pub others : (status ≡ 0) ⊎ (status ≡ 3) ⊎ (status ≡ 4) ⊎ (status ≡ 5) ⊎ (status ≡ 7)
+  pub others : (status ≡ 0) ⊎ (status ≡ 3) ⊎ (status ≡ 4) ⊎ (status ≡ 5) ⊎ (status ≡ 6) ⊎ (status ≡ 7)

@@ -1,27 +1,23 @@
 -- What one request does, in the program.
-use Rattle.std.specs.Prelude.{◌≡◌, ⊤, ℕ, List, Result, Ok, Err}
-use Rattle.gaz_outside.specs.Outside.{ShelfView, StationView, Prints}
+use Rattle.std.specs.Prelude.{◌⊎◌, ⊤, ℕ, List, Result, Ok, Err}
+use Rattle.gaz_outside.specs.Outside.{ShelfView, StationView}
 use Rattle.gaz_num.specs.Refusal as refusal
-use Rattle.gaz_num.specs.Refusal.{Refusal}
 use Rattle.gaz_plain.specs.Gazetteer.{Gazetteer}
 use Rattle.gaz_plain.specs.Load.{Files}
 use Rattle.gaz_reply.specs.declared.reply.Done.{Done}
-use Rattle.gaz_reply.specs.Reply.{Reply, done, refused, reply_text}
-use Rattle.gaz_reply.specs.Tells.{MayBeCut}
+use Rattle.gaz_reply.specs.Reply.{refused}
 use Rattle.gaz_serve.specs.declared.change.ChangeFault.{ChangeFault}
-use Rattle.gaz_serve.specs.Change.{Gives, IsUnblamed, FailedAt, refusal_by}
-use Rattle.gaz_turns.specs.Turns.{State, Answer, same_state, Verdict, plain, memory, shelf, MayBe, MayStarve, IsReached, opens, answer_to, answer_by}
+use Rattle.gaz_serve.specs.Change.{IsUnblamed, FailedAt, refusal_by}
+use Rattle.gaz_turns.specs.Turns.{State, Answer, made, same_state, Verdict, plain, memory, shelf, MayBe, MayStarve, IsReached, opens, answer_to, answer_by}
+use Rattle.gaz_turns.specs.Steps.{IsGiven}
 use Rattle.gaz_words.specs.declared.request.Request.{Request}
 
--- The state has the defined gazetteer, or the change was refused and left the state.
-abbrev pub Changes : {A : Type 0} → Result Gazetteer Refusal → State → State → Result A ChangeFault → Type 0
-Changes defined old new (Ok _) = defined ≡ Ok new.gaz
-Changes defined old new (Err fault) = (new ≡ old) × Gives defined (Err fault)
-
--- what is told of a change
-abbrev pub change_reply : {A : Type 0} → Done → Result A ChangeFault → Reply
-change_reply change (Ok _) = done change
-change_reply change (Err fault) = refused (refusal_by fault)
+-- What a change made is stored and told, or memory was wanting to store it; or it is told why the change is refused.
+abbrev pub Finishes : {A E : Type 0} → Done → Result Gazetteer ChangeFault → State → State → StationView → StationView → Result A E → Type 0
+Finishes change (Ok gaz) state state_now old new result =
+    IsGiven (made change gaz) state state_now old new result
+    ⊎ IsGiven (same_state state (refused refusal.memory)) state state_now old new result
+Finishes change (Err fault) state state_now old new result = IsGiven (same_state state (refused (refusal_by fault))) state state_now old new result
 
 -- The shelf failed once, at the file of the verdict, or didn't fail.
 abbrev pub IsBlamed : Verdict → ShelfView → ShelfView → Type 0
@@ -41,21 +37,16 @@ MayMeet plain state files request = ⊤
 MayMeet memory state files request = MayStarve (Ok request)
 MayMeet (shelf file) state files request = IsReached files file (opens state (Ok request))
 
--- A request that was read is met by a verdict that it may have.
+-- A request that was read is met by a verdict that it may have, and this answer is given.
 pub record Meets {A E : Type 0} (files : Files) (request : Request) (state state_now : State) (shelf shelf_now : ShelfView) (station station_now : StationView) (result : Result A E) : Type 0 where
   pub verdict : Verdict
   pub may : MayMeet verdict state files request
   pub blamed : IsBlamed verdict shelf shelf_now
-  pub printed : Prints (reply_text (answer_of verdict state files request).reply) station station_now result
-  pub cut : MayBeCut (reply_text (answer_of verdict state files request).reply) station station_now
-  pub state_is : state_now ≡ (answer_of verdict state files request).state
+  pub given : IsGiven (answer_of verdict state files request) state state_now station station_now result
 
--- One request is one step: it is met by a verdict that it may have, its reply is printed, or a front of it where the station
--- failed or where a stop came inside it, and the state is the one after it.
+-- One request is one step: it is met by a verdict that it may have, and this answer is given.
 pub record OneStep {A E : Type 0} (files : Files) (line : List ℕ) (state state_now : State) (shelf shelf_now : ShelfView) (station station_now : StationView) (result : Result A E) : Type 0 where
   pub verdict : Verdict
   pub may : MayBe verdict state files line
   pub blamed : IsBlamed verdict shelf shelf_now
-  pub printed : Prints (reply_text (answer_by verdict state files line).reply) station station_now result
-  pub cut : MayBeCut (reply_text (answer_by verdict state files line).reply) station station_now
-  pub state_is : state_now ≡ (answer_by verdict state files line).state
+  pub given : IsGiven (answer_by verdict state files line) state state_now station station_now result

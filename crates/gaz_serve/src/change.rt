@@ -134,6 +134,7 @@ pub(crate) fn loaded<F: Shelf>(
     requires line_limit { line_limit_of cutter.old ≡ 65535 }
     requires file_limit { file_limit_of cutter.old ≡ 2 ^ 40 }
     ensures gives { IfSome (files_of (F.view shelf.old)) (λ files. Gives (load files date) result) }
+    ensures dated { IfOk result (λ gaz. IsSome gaz.date) }
     ensures reached { IfSome (files_of (F.view shelf.old)) (λ files. BlamesReached files load_files result) }
     ensures blamed { Blamed (F.view shelf.old) (F.view shelf.new) result }
     ensures same { SameFiles (F.view shelf.old) (F.view shelf.new) }
@@ -173,6 +174,7 @@ pub(crate) fn next_gazetteer<F: Shelf>(
     requires line_limit { line_limit_of cutter.old ≡ 65535 }
     requires file_limit { file_limit_of cutter.old ≡ 2 ^ 40 }
     ensures gives { IfSome (files_of (F.view shelf.old)) (λ files. Gives (day gaz.now files date) result) }
+    ensures dated { IfOk result (λ gaz. IsSome gaz.date) }
     ensures reached { IfSome (files_of (F.view shelf.old)) (λ files. BlamesReached files (day_files date) result) }
     ensures blamed { Blamed (F.view shelf.old) (F.view shelf.new) result }
     ensures same { SameFiles (F.view shelf.old) (F.view shelf.new) }

@@ -1,17 +1,18 @@
 //! A run of requests, one line of the source after another.
-ghost use Rattle.std.specs.Prelude.{◌≡◌, ◌≢◌, ◌⊎◌, ◌^◌, ◌∷◌, [], IfOk, IfSome, codes, vec_len};
-ghost use Rattle.gaz_outside.specs.Outside.{HasCause, Prints, RisesOnce, SameFiles, SameNumbers, left_of, files_of, printed_of};
+ghost use Rattle.std.specs.Prelude.{◌≡◌, ◌≢◌, ◌⊎◌, ◌^◌, ◌∷◌, [], IsTrue, IfOk, IfSome, codes, vec_len};
+ghost use Rattle.gaz_outside.specs.Outside.{HasCause, Prints, RisesOnce, SameFiles, SameNumbers, left_of, files_of};
 ghost use Rattle.gaz_outside.specs.Station.{AreasStay};
 ghost use Rattle.gaz_num.specs.Refusal.{request};
 ghost use Rattle.gaz_lines.specs.Cutter.{line_limit_of, file_limit_of, IsFresh};
+ghost use Rattle.gaz_open.specs.Fits.{Fits};
 ghost use Rattle.gaz_reply.specs.Reply.{reply_text, refused};
 ghost use Rattle.gaz_reply.specs.Tells.{MayBeCut};
 ghost use Rattle.gaz_serve.specs.Change.{NoneOpen};
-ghost use Rattle.gaz_turns.specs.Turns.{at_first};
 ghost use Rattle.gaz_serve.specs.Ran.{RunAnswers};
 ghost use Rattle.gaz_serve.specs.Serve.{Taken};
 
-use crate::session::{EndFault, Session, answer};
+use crate::session::Session;
+use crate::step::{EndFault, answer};
 use gaz_lines::{LineCutter, LineFault};
 use gaz_outside::{Failed, Shelf, Source, Station};
 use gaz_reply::{Refusal, write_refusal};
@@ -39,12 +40,12 @@ pub(crate) fn run<S: Source, F: Shelf, T: Station>(
     station: &mut T,
     cutter: &mut LineCutter,
 ) -> u8
-    requires first { session.old ≡ at_first }
+    requires fits { IsTrue (T.view station.old).is_told → Fits session.old.side (T.view station.old) }
     requires line_limit { line_limit_of cutter.old ≡ 4096 }
     requires file_limit { file_limit_of cutter.old ≡ 2 ^ 40 }
     requires fresh { IsFresh cutter.old }
     ensures answers { IfSome (files_of (F.view shelf.old)) (λ files.
-        RunAnswers files (left_of (S.view source.old)) (left_of (S.view source.new)) (F.view shelf.old).faults (F.view shelf.new).faults (printed_of (T.view station.old)) (printed_of (T.view station.new)) result) }
+        RunAnswers session.old.state files (left_of (S.view source.old)) (left_of (S.view source.new)) (F.view shelf.old).faults (F.view shelf.new).faults (T.view station.old) (T.view station.new) result) }
     ensures emptied { result ≡ 0 → IfSome (left_of (S.view source.new)) (λ bytes. bytes ≡ []) }
     ensures taken { Taken 65536 (left_of (S.view source.old)) (left_of (S.view source.new)) }
     ensures same { SameFiles (F.view shelf.old) (F.view shelf.new) }
@@ -54,7 +55,6 @@ pub(crate) fn run<S: Source, F: Shelf, T: Station>(
     ensures source { result ≡ 4 → RisesOnce (S.view source.old).faults (S.view source.new).faults }
     ensures source_kept { result ≢ 4 → (S.view source.new).faults ≡ (S.view source.old).faults }
     ensures told { (T.view station.new).is_told ≡ (T.view station.old).is_told }
-    ensures areas { AreasStay (T.view station.old) (T.view station.new) }
     ensures others { (result ≡ 0) ⊎ (result ≡ 3) ⊎ (result ≡ 4) ⊎ (result ≡ 7) }
 {
     loop {

@@ -1,5 +1,5 @@
 -- A list of turns that goes on by one: its replies, its gazetteers, and the count of acknowledgements.
-use Rattle.std.proofs.Common.{◌≡◌, ℕ, zero, suc, ◌+◌, ◌≤◌, Bool, true, false, cond, true≢false, List, [], ◌∷◌, ◌++◌, take, length, refl, sym, ◌∙◌, ap, arith, append_assoc, append-nil, Some, length-append}
+use Rattle.std.proofs.Common.{◌≡◌, ℕ, zero, suc, ◌+◌, ◌≤◌, Bool, true, false, ◌||◌, cond, true≢false, List, [], ◌∷◌, ◌++◌, take, length, refl, sym, ◌∙◌, ap, arith, append_assoc, append-nil, Some, length-append}
 use Rattle.std.specs.Prelude.{map, if◌then◌else◌, slice_get, is_some, Result, Ok, Err}
 use Rattle.gaz_num.specs.Refusal.{Refusal}
 use Rattle.gaz_plain.specs.Gazetteer.{Gazetteer}
@@ -11,7 +11,7 @@ use Rattle.gaz_words.specs.Grammar.{request_in}
 use Rattle.gaz_reply.specs.declared.reply.Done.{Done}
 use Rattle.gaz_reply.specs.declared.reply.Done.TheVariants as done_of
 use Rattle.gaz_reply.specs.Reply.{reply_text, reply_lines, is_change, is_ack, acks}
-use Rattle.gaz_turns.specs.Turns.{State, Answer, Turn, Verdict, plain, memory, shelf, answer_at, answer_by, answer_to_read, changed, MayBe, IsLegal, replies, gazetteers, state_after}
+use Rattle.gaz_turns.specs.Turns.{State, Answer, Turn, Verdict, plain, memory, shelf, answer_at, answer_by, answer_to_read, changed, MayBe, IsLegal, replies, gazetteers, state_after, has_change}
 use Rattle.gaz_turns.proofs.Counted.{counted, counted_front}
 use Rattle.gaz_turns.proofs.Replied.{IsMarked}
 
@@ -52,6 +52,22 @@ same_by (shelf file) state files line h = refl
 
 pub same_gaz : (state : State) (files : Files) (turn : Turn) → is_change (answer_at state files turn).reply ≡ false → (answer_at state files turn).state.gaz ≡ state.gaz
 same_gaz state files turn h = ap (λ (s : State). s.gaz) (same_by turn.verdict state files turn.line h)
+
+or_none : (b : Bool) → (b || false) ≡ b
+or_none true = refl
+or_none false = refl
+
+or_three : (a b c : Bool) → (a || (b || c)) ≡ ((a || b) || c)
+or_three true b c = refl
+or_three false b c = refl
+
+-- whether a change is made, with one turn more
+pub change_more : (state : State) (files : Files) (turns : List Turn) (turn : Turn) → has_change state files (turns ++ turn ∷ []) ≡ (has_change state files turns || is_change (answer_at (state_after state files turns) files turn).reply)
+change_more state files [] turn = or_none (is_change (answer_at state files turn).reply)
+change_more state files (t ∷ turns) turn =
+    let next = (answer_at state files t).state in
+    ap (λ (b : Bool). is_change (answer_at state files t).reply || b) (change_more next files turns turn)
+    ∙ or_three (is_change (answer_at state files t).reply) (has_change next files turns) (is_change (answer_at (state_after next files turns) files turn).reply)
 
 -- the gazetteer, where the answer tells a change
 abbrev pub if_change : Answer → List Gazetteer

@@ -1,14 +1,19 @@
 -- One request: what its stops leave, from what storing and telling leave.
-use Rattle.std.proofs.Common.{◌≡◌, inl, inr, ⊎_elim, ℕ, IsTrue, List, append-nil, arith, refl, sym, ◌∙◌, subst, Some}
+use Rattle.std.proofs.Common.{◌≡◌, inl, inr, ⊎_elim, ℕ, Bool, true, false, true≢false, IsTrue, List, [], append-nil, arith, refl, sym, ◌∙◌, ap, subst, Some, None}
+use Rattle.std.specs.Prelude.{if◌then◌else◌, Result, Ok, Err, OnOk}
+use Rattle.std.specs.Io.KnownBytes.{append_known}
+use Rattle.gaz_outside.specs.Outside.{Prints, printed_of}
 use Rattle.gaz_outside.specs.Station.{StationView, Outcome, Leaves, LeavesOnly, LeavesFront, HasFrontOf, AreasStay}
 use Rattle.gaz_outside.proofs.Runs.{begins, goes_on, leaves_weaker}
 use Rattle.gaz_plain.specs.Gazetteer.{Gazetteer}
-use Rattle.gaz_reply.specs.Reply.{reply_text}
+use Rattle.gaz_reply.specs.declared.reply.Done.{Done}
+use Rattle.gaz_reply.specs.Reply.{Reply, reply_text, done}
+use Rattle.gaz_reply.proofs.Pieces.{append_none}
 use Rattle.gaz_reply.specs.Tells.{MayBeCut}
 use Rattle.gaz_open.specs.Content.{mirror_in}
 use Rattle.gaz_open.specs.Holds.{AllHold, IsOldOrNext}
-use Rattle.gaz_turns.specs.Turns.{State, Answer}
-use Rattle.gaz_turns.specs.Steps.{IsBeforeOrAfter}
+use Rattle.gaz_turns.specs.Turns.{State, Answer, made, same_state}
+use Rattle.gaz_turns.specs.Steps.{IsBeforeOrAfter, IsGiven}
 
 -- Inside the telling, the areas have the gazetteer that all outcomes had when it began, and a front of the reply is printed.
 told_front : (gaz : Gazetteer) (piece : List ℕ) (v : StationView) (c : Outcome) → AllHold v gaz → LeavesFront piece v v c → (mirror_in c.areas ≡ Some gaz) × HasFrontOf piece v.printed c.text
@@ -47,3 +52,58 @@ stored_stops state answer old mid new told same stores holds cut =
     (cut told)
     (λ c front. let there = told_front answer.state.gaz (reply_text answer.reply) mid c holds front in
     inr (there.0, subst (λ (text : List ℕ). HasFrontOf (reply_text answer.reply) text c.text) same there.1))
+
+-- what holds where it is well
+pub on_ok : {A E : Type 0} (P : Type 0) (result : Result A E) → P → OnOk result P
+on_ok P (Ok x) p = p
+on_ok P (Err x) p = tt
+
+-- a reply that leaves the state
+pub told_given : {A E : Type 0} (state : State) (reply : Reply) (old new : StationView) (result : Result A E) → ((c : Outcome) → IsTrue old.is_told → old.left_since old.moment c → Leaves old c)
+    → Prints (reply_text reply) old new result → MayBeCut (reply_text reply) old new → AreasStay old new → IsGiven (same_state state reply) state state old new result
+told_given state reply old new result only printed cut stay = record {
+  printed = printed;
+  moments = λ told holds. told_stops state (same_state state reply) old new (λ c left. only c told left) told refl holds cut;
+  holds = on_ok _ result (λ told holds. still_holds state.gaz old new told stay holds);
+  state_is = on_ok _ result refl;
+  stays = λ none. stay;
+}
+
+same_if : (a b : Bool) (p q : List ℕ) → b ≡ a → (IsTrue a → q ≡ p) → (if b then Some q else None) ≡ (if a then Some p else None)
+same_if true b p q is same = ap (λ (x : Bool). if x then Some q else None) is ∙ ap Some (same refl)
+same_if false b p q is same = ap (λ (x : Bool). if x then Some q else None) is
+
+pub same_printed : (old mid : StationView) → mid.is_told ≡ old.is_told → (IsTrue old.is_told → mid.printed ≡ old.printed) → printed_of mid ≡ printed_of old
+unfolding printed_of
+same_printed old mid told same = same_if old.is_told mid.is_told old.printed mid.printed told same
+
+prints_from : {A E : Type 0} (piece : List ℕ) (old mid new : StationView) (result : Result A E) → printed_of mid ≡ printed_of old → Prints piece mid new result → Prints piece old new result
+prints_from piece old mid new (Ok x) e p = p ∙ ap (λ o. append_known o piece) e
+prints_from piece old mid new (Err x) e p = (p.0, p.1, p.2 ∙ ap (λ o. append_known o p.0) e)
+
+module _ {A E : Type 0} (state : State) (change : Done) (gaz : Gazetteer) (old mid : StationView) (same : mid.is_told ≡ old.is_told)
+    (printed : IsTrue old.is_told → mid.printed ≡ old.printed)
+    (stores : IsTrue old.is_told → (first : Gazetteer) → AllHold old first → LeavesOnly old mid (IsOldOrNext first gaz old))
+  where
+    -- a change that is stored, and then told
+    pub stored_given : (new : StationView) (result : Result A E) → (IsTrue old.is_told → AllHold mid gaz)
+        → Prints (reply_text (done change)) mid new result → MayBeCut (reply_text (done change)) mid new → AreasStay mid new → IsGiven (made change gaz) state (record { gaz = gaz }) old new result
+    stored_given new result holds prints cut stay =
+        let still : IsTrue old.is_told → IsTrue mid.is_told = λ told. subst (λ (b : Bool). IsTrue b) (sym same) told in
+        record {
+          printed = prints_from (reply_text (done change)) old mid new result (same_printed old mid same printed) prints;
+          moments = λ told first. stored_stops state (made change gaz) old mid new (still told) (printed told) (stores told state.gaz first) (holds told) cut;
+          holds = on_ok _ result (λ told first. still_holds gaz mid new (still told) stay (holds told));
+          state_is = on_ok _ result refl;
+          stays = λ none. absurd (true≢false none);
+        }
+
+    -- a change that couldn't be stored
+    pub unstored_given : (now : State) (why : E) → IsGiven {A = A} {E = E} (made change gaz) state now old mid (Err why)
+    unstored_given now why = record {
+      printed = ([], (reply_text (done change), refl), same_printed old mid same printed ∙ append_none (printed_of old));
+      moments = λ told first. untold_stops state (made change gaz) old mid (stores told state.gaz first);
+      holds = tt;
+      state_is = tt;
+      stays = λ none. absurd (true≢false none);
+    }

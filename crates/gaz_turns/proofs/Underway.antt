@@ -1,9 +1,9 @@
 -- A run that is under way, and one request more.
-use Rattle.std.proofs.Common.{◌≡◌, ◌≢◌, ◌⊎◌, inl, inr, ⊎_elim, ℕ, zero, suc, ◌+◌, ◌≤◌, Bool, true, false, cond, true≢false, List, [], ◌∷◌, ◌++◌, take, drop, length, refl, sym, ◌∙◌, ap, arith, subst, append_assoc, append-nil, Some, length-append}
+use Rattle.std.proofs.Common.{◌≡◌, ◌≢◌, ◌⊎◌, inl, inr, ⊎_elim, ℕ, zero, suc, ◌+◌, ◌≤◌, Bool, true, false, cond, List, [], ◌∷◌, ◌++◌, take, drop, length, refl, sym, ◌∙◌, ap, arith, subst, append_assoc, append-nil, Some, length-append}
 use Rattle.std.proofs.lemmas.List.{take-append-le, take_all}
 use Rattle.std.proofs.Math.Seq.{take-append-add}
 use Rattle.std.proofs.Transfers.{drop-appended}
-use Rattle.std.specs.Prelude.{map, slice_get, Result}
+use Rattle.std.specs.Prelude.{slice_get}
 use Rattle.std.specs.List.{AllByRecursion}
 use Rattle.gaz_outside.specs.declared.station.Area.{Area}
 use Rattle.gaz_outside.specs.Station.{StationView, Outcome, Leaves, LeavesOnly}
@@ -12,21 +12,18 @@ use Rattle.gaz_plain.specs.Gazetteer.{Gazetteer}
 use Rattle.gaz_plain.specs.Load.{Files}
 use Rattle.gaz_reply.specs.Reply.{acks, reply_text, is_change}
 use Rattle.gaz_open.specs.Holds.{AllHold, IsStill}
-use Rattle.gaz_turns.specs.Head.{Course, IsFront, HoldsAcked, IsStop, IsStored}
-use Rattle.gaz_turns.specs.Turns.{State, Turn, Answer, MayBe, IsLegal, answer_at, answer_by, replies, gazetteers, state_after, after}
-use Rattle.gaz_turns.specs.Steps.{IsBeforeOrAfter, IsDone, OneStep, RunKeeps}
+use Rattle.gaz_turns.specs.Head.{Course, IsFront, HoldsAcked, IsStop, IsStored, Keeps}
+use Rattle.gaz_turns.specs.Turns.{State, Turn, answer_at, replies, gazetteers, state_after, after}
+use Rattle.gaz_turns.specs.Steps.{IsBeforeOrAfter}
 use Rattle.gaz_turns.proofs.Stored.{read_stored}
 use Rattle.gaz_turns.proofs.Replied.{IsMarked, answer_marked}
-use Rattle.gaz_turns.proofs.Tallies.{Tally, no_turn, one_turn, replies_on, replies_more, gazetteers_on, front_acks, legal_more, asked_more, state_more, same_gaz, if_change, get_at, get_more}
+use Rattle.gaz_turns.proofs.Tallies.{Tally, no_turn, one_turn, replies_on, gazetteers_on, front_acks, state_more, same_gaz, if_change, get_at, get_more}
 
 abbrev course_of : State → Files → List Turn → Course
 course_of first files turns = record { first = first; files = files; turns = turns }
 
--- These lines were answered, and this is the state now.
-pub record IsUnderWay (files : Files) (first : State) (entry now : StationView) (state : State) (answered : List (List ℕ)) : Type 0 where
-  pub turns : List Turn
-  pub asked : map (λ turn. turn.line) turns ≡ answered
-  pub legal : IsLegal first files turns
+-- These turns were answered, and this is the state now.
+pub record IsUnderWay (files : Files) (first : State) (entry now : StationView) (state : State) (turns : List Turn) : Type 0 where
   pub ends : state_after first files turns ≡ state
   pub printed : now.printed ≡ entry.printed ++ replies first files turns
   pub stops : LeavesOnly entry now (IsStop (record { first = first; files = files; turns = turns }) entry)
@@ -68,9 +65,6 @@ front_whole xs = (length xs, omega arith, sym (take_all (length xs) xs (omega ar
 -- before the first request
 pub starts : (files : Files) (first : State) (v : StationView) → ((c : Outcome) → v.left_since v.moment c → Leaves v c) → AllHold v first.gaz → IsUnderWay files first v v first []
 starts files first v only holds = record {
-  turns = [];
-  asked = refl;
-  legal = tt;
   ends = refl;
   printed = sym (append-nil v.printed);
   stops = begins v (IsStop (record { first = first; files = files; turns = [] }) v) (λ c left.
@@ -180,135 +174,64 @@ module _ (first : State) (files : Files) (turns : List Turn) (turn : Turn) (stat
       })
       either
 
--- two lists that end in one element each
-but_last : (xs ys : List Turn) (x y : Turn) → xs ++ x ∷ [] ≡ ys ++ y ∷ [] → xs ≡ ys
-but_last xs ys x y is = sym (all_but xs x) ∙ ap front is ∙ all_but ys y
+module _ (files : Files) (first : State) (entry mid new : StationView) (state : State) (turns : List Turn) (turn : Turn) (run : IsUnderWay files first entry mid state turns)
+    (stay : (a : Area) → mid.may_leave a (mid.bytes a)) (moments : LeavesOnly mid new (IsBeforeOrAfter state (answer_at state files turn) mid))
   where
-    front : List Turn → List Turn
-    front [] = []
-    front (t ∷ []) = []
-    front (t ∷ u ∷ ts) = t ∷ front (u ∷ ts)
+    marked : IsMarked (answer_at state files turn).reply
+    marked = answer_marked turn.verdict state files turn.line (stored_now mid state.gaz stay run.holds)
 
-    all_but : (ts : List Turn) (t : Turn) → front (ts ++ t ∷ []) ≡ ts
-    all_but [] t = refl
-    all_but (u ∷ []) t = refl
-    all_but (u ∷ w ∷ ts) t = ap (λ (l : List Turn). u ∷ l) (all_but (w ∷ ts) t)
+    -- the stops after one request more
+    stops_on : LeavesOnly entry new (IsStop (course_of first files (turns ++ turn ∷ [])) entry)
+    stops_on =
+        goes_far entry mid new (IsStop (course_of first files (turns ++ turn ∷ [])) entry) (IsBeforeOrAfter state (answer_at state files turn) mid)
+        (leaves_weaker entry mid (IsStop (course_of first files turns) entry) (IsStop (course_of first files (turns ++ turn ∷ [])) entry)
+        (λ c stop. stop_more first files turns turn state run.ends marked run.tally entry c stop) run.stops)
+        moments
+        (λ c either. stop_in first files turns turn state run.ends marked run.tally entry mid c run.printed either)
 
--- what is printed after a failed request has the replies before it
-reply_front : (state : State) (a : Answer) (entry mid : StationView) (c : Outcome) (done text : List ℕ) → mid.printed ≡ entry.printed ++ done → c.text ≡ entry.printed ++ text → IsBeforeOrAfter state a mid c → IsFront done text
-reply_front state a entry mid c done text printed all either =
-    ⊎_elim
-    (λ old. front_as done text done (same (old.1 ∙ printed)) (front_whole done))
-    (λ new. front_as done text (done ++ take new.1.0 (reply_text a.reply))
-    (same (new.1.2 ∙ ap (λ (l : List ℕ). l ++ take new.1.0 (reply_text a.reply)) printed ∙ append_assoc entry.printed done (take new.1.0 (reply_text a.reply))))
-    (front_more done done (take new.1.0 (reply_text a.reply)) (front_whole done)))
-    either
-  where
-    same : {t : List ℕ} → c.text ≡ entry.printed ++ t → t ≡ text
-    same {t = t} is = sym (drop-appended entry.printed c.text t is) ∙ drop-appended entry.printed c.text text all
+    -- one request more was answered
+    pub goes_on : (now : State) → new.printed ≡ mid.printed ++ reply_text (answer_at state files turn).reply → AllHold new (answer_at state files turn).state.gaz → now ≡ (answer_at state files turn).state
+        → IsUnderWay files first entry new now (turns ++ turn ∷ [])
+    goes_on now printed holds is =
+        let a = answer_at state files turn in
+        record {
+          ends = state_more first files turns turn ∙ ap (λ (s : State). (answer_at s files turn).state) run.ends ∙ sym is;
+          printed = printed ∙ ap (λ (l : List ℕ). l ++ reply_text a.reply) run.printed ∙ append_assoc entry.printed (replies first files turns) (reply_text a.reply)
+              ∙ ap (λ (l : List ℕ). entry.printed ++ l) (sym (replies_on first files turns turn state run.ends marked));
+          stops = stops_on;
+          holds = subst (λ (s : State). AllHold new s.gaz) (sym is) holds;
+          tally = subst (λ (s : State). Tally first files (turns ++ turn ∷ []) s) (sym is) (one_turn first files turns turn state run.ends marked run.tally);
+        }
 
-    front_as : (xs ys zs : List ℕ) → zs ≡ ys → IsFront xs zs → IsFront xs ys
-    front_as xs ys zs is front = subst (λ (l : List ℕ). IsFront xs l) is front
-
-module _ (files : Files) (first : State) (entry mid new : StationView) (state : State) (answered : List (List ℕ)) (line : List ℕ) where
-  -- the turn that a step takes
-  pub turn_of : {A E : Type 0} (now : State) (result : Result A E) → OneStep files line state now mid new result → Turn
-  turn_of now result step = record { line = line; verdict = step.verdict }
-
-  -- the stops after one request more
-  pub stops_on : {A E : Type 0} (now : State) (result : Result A E) (run : IsUnderWay files first entry mid state answered) (step : OneStep files line state now mid new result)
-      → ((a : Area) → mid.may_leave a (mid.bytes a))
-      → LeavesOnly entry new (IsStop (record { first = first; files = files; turns = run.turns ++ (record { line = line; verdict = step.verdict }) ∷ [] }) entry)
-  stops_on now result run step stay =
-      let turn : Turn = record { line = line; verdict = step.verdict } in
-      let marked = answer_marked step.verdict state files line (stored_now mid state.gaz stay run.holds) in
-      goes_far entry mid new (IsStop (course_of first files (run.turns ++ turn ∷ [])) entry) (IsBeforeOrAfter state (answer_at state files turn) mid)
-      (leaves_weaker entry mid (IsStop (course_of first files run.turns) entry) (IsStop (course_of first files (run.turns ++ turn ∷ [])) entry)
-      (λ c stop. stop_more first files run.turns turn state run.ends marked run.tally entry c stop) run.stops)
-      step.moments
-      (λ c either. stop_in first files run.turns turn state run.ends marked run.tally entry mid c run.printed either)
-
-  pub legal_on : {A E : Type 0} (now : State) (result : Result A E) (run : IsUnderWay files first entry mid state answered) (step : OneStep files line state now mid new result)
-      → IsLegal first files (run.turns ++ (record { line = line; verdict = step.verdict }) ∷ [])
-  legal_on now result run step =
-      let turn : Turn = record { line = line; verdict = step.verdict } in
-      legal_more first files run.turns turn run.legal (subst (λ (s : State). MayBe turn.verdict s files turn.line) (sym run.ends) step.may)
-
-  -- one request more was answered
-  pub goes_on : {A E : Type 0} (now : State) (result : Result A E) (run : IsUnderWay files first entry mid state answered) (step : OneStep files line state now mid new result)
-      → ((a : Area) → mid.may_leave a (mid.bytes a))
-      → IsDone (answer_by step.verdict state files line) now mid new → IsUnderWay files first entry new now (answered ++ line ∷ [])
-  goes_on now result run step stay done =
-      let turn : Turn = record { line = line; verdict = step.verdict } in
-      let a = answer_at state files turn in
-      let marked = answer_marked step.verdict state files line (stored_now mid state.gaz stay run.holds) in
-      record {
-        turns = run.turns ++ turn ∷ [];
-        asked = asked_more run.turns turn ∙ ap (λ (ls : List (List ℕ)). ls ++ line ∷ []) run.asked;
-        legal = legal_on now result run step;
-        ends = state_more first files run.turns turn ∙ ap (λ (s : State). (answer_at s files turn).state) run.ends ∙ sym done.state_is;
-        printed = done.printed ∙ ap (λ (l : List ℕ). l ++ reply_text a.reply) run.printed ∙ append_assoc entry.printed (replies first files run.turns) (reply_text a.reply)
-            ∙ ap (λ (l : List ℕ). entry.printed ++ l) (sym (replies_on first files run.turns turn state run.ends marked));
-        stops = stops_on now result run step stay;
-        holds = subst (λ (s : State). AllHold new s.gaz) (sym done.state_is) done.holds;
-        tally = subst (λ (s : State). Tally first files (run.turns ++ turn ∷ []) s) (sym done.state_is) (one_turn first files run.turns turn state run.ends marked run.tally);
-      }
-
-  -- the station failed in this request
-  pub ends_cut : {A E : Type 0} (now : State) (result : Result A E) (run : IsUnderWay files first entry mid state answered) (step : OneStep files line state now mid new result)
-      → ((a : Area) → mid.may_leave a (mid.bytes a)) → ((a : Area) → new.may_leave a (new.bytes a))
-      → ((t : ℕ) (c : Outcome) → t ≤ new.moment → Leaves new c → new.left_since t c)
-      → (rest : List (List ℕ)) → RunKeeps files ((answered ++ line ∷ []) ++ rest) first entry new 3
-  ends_cut now result run step stay stay_new counts rest =
-      let turn : Turn = record { line = line; verdict = step.verdict } in
-      let stops = stops_on now result run step stay in
-      let here : Leaves new (as_it_is new) = record { areas = stay_new; text = refl } in
-      let stop = stops.each (as_it_is new) (counts entry.moment (as_it_is new) stops.later here) in
-      record {
-        turns = run.turns ++ turn ∷ [];
-        unanswered = rest;
-        asked = ap (λ (ls : List (List ℕ)). ls ++ rest) (sym (asked_more run.turns turn ∙ ap (λ (ls : List (List ℕ)). ls ++ line ∷ []) run.asked));
-        legal = legal_on now result run step;
-        all = λ is. absurd (omega (arith, is));
-        cut_last = λ earlier last is.
-            let same : run.turns ≡ earlier = but_last run.turns earlier turn last is in
-            subst (λ (ts : List Turn). IsFront (replies first files ts) stop.text) same
-            (reply_front state (answer_at state files turn) entry mid (as_it_is new) (replies first files run.turns) stop.text run.printed stop.printed (step.moments.each (as_it_is new) (counts mid.moment (as_it_is new) step.moments.later here)));
-        keeps = record {
-          stops = stops;
+    -- the station failed in this request
+    pub ends_cut : ((a : Area) → new.may_leave a (new.bytes a)) → ((t : ℕ) (c : Outcome) → t ≤ new.moment → Leaves new c → new.left_since t c)
+        → Keeps (course_of first files (turns ++ turn ∷ [])) entry new 3
+    ends_cut stay_new counts =
+        let here : Leaves new (as_it_is new) = record { areas = stay_new; text = refl } in
+        let stop = stops_on.each (as_it_is new) (counts entry.moment (as_it_is new) stops_on.later here) in
+        record {
+          stops = stops_on;
           text = stop.text;
           printed = stop.printed;
           front = stop.front;
           whole = λ other. absurd (other refl);
           ended = λ other. absurd (other refl);
           cut = λ is c leaves.
-              let s = stops.each c (counts entry.moment c stops.later leaves) in
+              let s = stops_on.each c (counts entry.moment c stops_on.later leaves) in
               let same : s.text ≡ stop.text = sym (drop-appended entry.printed c.text s.text s.printed) ∙ ap (drop (length entry.printed)) leaves.text ∙ drop-appended entry.printed new.printed stop.text stop.printed in
-              subst (λ (t : List ℕ). HoldsAcked (record { first = first; files = files; turns = run.turns ++ turn ∷ [] }) t c.areas) same s.holds;
-        };
-      }
+              subst (λ (t : List ℕ). HoldsAcked (course_of first files (turns ++ turn ∷ [])) t c.areas) same s.holds;
+        }
 
 -- The run ends between two requests, with any status that doesn't say that the station failed.
-pub ends_well : (files : Files) (first : State) (entry now : StationView) (state : State) (answered rest : List (List ℕ)) (status : ℕ) → status ≢ 3 → (status ≡ 0 → rest ≡ []) → IsUnderWay files first entry now state answered → RunKeeps files (answered ++ rest) first entry now status
-ends_well files first entry now state answered rest status well all run = record {
-  turns = run.turns;
-  unanswered = rest;
-  asked = ap (λ (ls : List (List ℕ)). ls ++ rest) (sym run.asked);
-  legal = run.legal;
-  all = all;
-  cut_last = λ earlier last is.
-      subst (λ (l : List ℕ). IsFront (replies first files earlier) l)
-      (sym (replies_more first files earlier last) ∙ ap (replies first files) (sym is))
-      (front_more (replies first files earlier) (replies first files earlier) (reply_text (answer_at (state_after first files earlier) files last).reply) (front_whole (replies first files earlier)));
-  keeps = record {
-    stops = run.stops;
-    text = replies first files run.turns;
-    printed = run.printed;
-    front = front_whole (replies first files run.turns);
-    whole = λ other. refl;
-    ended = λ other c leaves. run.holds c leaves ∙ ap (λ (s : State). Some s.gaz) (sym run.ends);
-    cut = λ is. absurd (well is);
-  };
+pub ends_well : (files : Files) (first : State) (entry now : StationView) (state : State) (turns : List Turn) (status : ℕ) → status ≢ 3 → IsUnderWay files first entry now state turns → Keeps (course_of first files turns) entry now status
+ends_well files first entry now state turns status well run = record {
+  stops = run.stops;
+  text = replies first files turns;
+  printed = run.printed;
+  front = front_whole (replies first files turns);
+  whole = λ other. refl;
+  ended = λ other c leaves. run.holds c leaves ∙ ap (λ (s : State). Some s.gaz) (sym run.ends);
+  cut = λ is. absurd (well is);
 }
 
 -- the first gazetteer of a run
@@ -332,62 +255,33 @@ module _ (files : Files) (gaz : Gazetteer) (entry : StationView) where
   }
 
   -- a run that ends before its first request
-  pub ends_early : (exit : StationView) (lines : List (List ℕ)) (status : ℕ) → status ≢ 0 → LeavesOnly entry exit (IsStill gaz entry)
-      → exit.printed ≡ entry.printed
+  pub ends_early : (exit : StationView) (status : ℕ) → LeavesOnly entry exit (IsStill gaz entry) → exit.printed ≡ entry.printed
       → ((t : ℕ) (c : Outcome) → t ≤ exit.moment → Leaves exit c → exit.left_since t c)
-      → RunKeeps files lines (record { gaz = gaz }) entry exit status
-  ends_early exit lines status other still printed counts = record {
-    turns = [];
-    unanswered = lines;
-    asked = refl;
-    legal = tt;
-    all = λ is. absurd (other is);
-    cut_last = λ earlier last is. absurd (none_one earlier last is);
-    keeps = record {
-      stops = leaves_weaker entry exit (IsStill gaz entry) (IsStop (course_of (record { gaz = gaz }) files []) entry) (λ c is. still_stop [] c is) still;
-      text = [];
-      printed = printed ∙ sym (append-nil entry.printed);
-      front = (0, omega arith, refl);
-      whole = λ well. refl;
-      ended = λ well c leaves. (still.each c (counts entry.moment c still.later leaves)).0;
-      cut = λ is c leaves. (record { gaz = gaz; content = (still.each c (counts entry.moment c still.later leaves)).0; one_of = inl refl });
-    };
+      → Keeps (course_of (record { gaz = gaz }) files []) entry exit status
+  ends_early exit status still printed counts = record {
+    stops = leaves_weaker entry exit (IsStill gaz entry) (IsStop (course_of (record { gaz = gaz }) files []) entry) (λ c is. still_stop [] c is) still;
+    text = [];
+    printed = printed ∙ sym (append-nil entry.printed);
+    front = (0, omega arith, refl);
+    whole = λ well. refl;
+    ended = λ well c leaves. (still.each c (counts entry.moment c still.later leaves)).0;
+    cut = λ is c leaves. (record { gaz = gaz; content = (still.each c (counts entry.moment c still.later leaves)).0; one_of = inl refl });
   }
-    where
-      none_one : (earlier : List Turn) (last : Turn) → [] ≡ earlier ++ last ∷ [] → ⊥
-      none_one [] last is = true≢false (ap (λ (l : List Turn). is_none_of l) is)
-        where
-          is_none_of : List Turn → Bool
-          is_none_of [] = true
-          is_none_of (t ∷ ts) = false
-      none_one (t ∷ ts) last is = true≢false (ap (λ (l : List Turn). is_none_of l) is)
-        where
-          is_none_of : List Turn → Bool
-          is_none_of [] = true
-          is_none_of (t ∷ ts) = false
 
   -- a run that begins a little later
-  pub from_open : (mid exit : StationView) (lines : List (List ℕ)) (status : ℕ) → LeavesOnly entry mid (IsStill gaz entry) → mid.printed ≡ entry.printed
-      → RunKeeps files lines (record { gaz = gaz }) mid exit status → RunKeeps files lines (record { gaz = gaz }) entry exit status
-  from_open mid exit lines status still printed run =
-      let course = course_of (record { gaz = gaz }) files run.turns in
+  pub from_open : (mid exit : StationView) (turns : List Turn) (status : ℕ) → LeavesOnly entry mid (IsStill gaz entry) → mid.printed ≡ entry.printed
+      → Keeps (course_of (record { gaz = gaz }) files turns) mid exit status → Keeps (course_of (record { gaz = gaz }) files turns) entry exit status
+  from_open mid exit turns status still printed keeps =
+      let course = course_of (record { gaz = gaz }) files turns in
       record {
-        turns = run.turns;
-        unanswered = run.unanswered;
-        asked = run.asked;
-        legal = run.legal;
-        all = run.all;
-        cut_last = run.cut_last;
-        keeps = record {
-          stops = goes_far entry mid exit (IsStop course entry) (IsStop course mid)
-              (leaves_weaker entry mid (IsStill gaz entry) (IsStop course entry) (λ c is. still_stop run.turns c is) still)
-              run.keeps.stops
-              (λ c stop. record { text = stop.text; printed = stop.printed ∙ ap (λ (l : List ℕ). l ++ stop.text) printed; front = stop.front; holds = stop.holds });
-          text = run.keeps.text;
-          printed = run.keeps.printed ∙ ap (λ (l : List ℕ). l ++ run.keeps.text) printed;
-          front = run.keeps.front;
-          whole = run.keeps.whole;
-          ended = run.keeps.ended;
-          cut = run.keeps.cut;
-        };
+        stops = goes_far entry mid exit (IsStop course entry) (IsStop course mid)
+            (leaves_weaker entry mid (IsStill gaz entry) (IsStop course entry) (λ c is. still_stop turns c is) still)
+            keeps.stops
+            (λ c stop. record { text = stop.text; printed = stop.printed ∙ ap (λ (l : List ℕ). l ++ stop.text) printed; front = stop.front; holds = stop.holds });
+        text = keeps.text;
+        printed = keeps.printed ∙ ap (λ (l : List ℕ). l ++ keeps.text) printed;
+        front = keeps.front;
+        whole = keeps.whole;
+        ended = keeps.ended;
+        cut = keeps.cut;
       }

@@ -1,11 +1,12 @@
 -- What one request does to a device, and what a run of requests does.
-use Rattle.std.specs.Prelude.{◌≡◌, ◌⊎◌, ℕ, List, [], ◌∷◌, ◌++◌, map, Some, Result, OnOk}
-use Rattle.gaz_outside.specs.Station.{StationView, Outcome, LeavesOnly, HasFrontOf}
+use Rattle.std.specs.Prelude.{◌≡◌, ◌⊎◌, ℕ, false, List, [], ◌∷◌, ◌++◌, map, Some, Result, OnOk, IsTrue}
+use Rattle.gaz_outside.specs.Outside.{Prints}
+use Rattle.gaz_outside.specs.Station.{StationView, Outcome, LeavesOnly, HasFrontOf, AreasStay}
 use Rattle.gaz_plain.specs.Load.{Files}
-use Rattle.gaz_reply.specs.Reply.{reply_text}
+use Rattle.gaz_reply.specs.Reply.{reply_text, is_change}
 use Rattle.gaz_open.specs.Content.{mirror_in}
 use Rattle.gaz_open.specs.Holds.{AllHold}
-use Rattle.gaz_turns.specs.Turns.{State, Turn, Verdict, Answer, MayBe, answer_by, IsLegal, replies}
+use Rattle.gaz_turns.specs.Turns.{State, Turn, Answer, IsLegal, replies}
 use Rattle.gaz_turns.specs.Head.{IsFront, Keeps}
 
 -- The old gazetteer with nothing more printed, or the new one with a front of the reply.
@@ -14,18 +15,16 @@ IsBeforeOrAfter state answer v c =
     ((mirror_in c.areas ≡ Some state.gaz) × (c.text ≡ v.printed))
     ⊎ ((mirror_in c.areas ≡ Some answer.state.gaz) × HasFrontOf (reply_text answer.reply) v.printed c.text)
 
--- The whole reply is printed, and all outcomes of now have the new gazetteer.
-pub record IsDone (answer : Answer) (state : State) (old new : StationView) : Type 0 where
-  pub printed : new.printed ≡ old.printed ++ reply_text answer.reply
-  pub holds : AllHold new answer.state.gaz
-  pub state_is : state ≡ answer.state
-
--- One request is one step: it is met by a verdict that it may have. A change is committed before a byte of its reply is printed.
-pub record OneStep {A E : Type 0} (files : Files) (line : List ℕ) (state state_now : State) (old new : StationView) (result : Result A E) : Type 0 where
-  pub verdict : Verdict
-  pub may : MayBe verdict state files line
-  pub moments : LeavesOnly old new (IsBeforeOrAfter state (answer_by verdict state files line) old)
-  pub done : OnOk result (IsDone (answer_by verdict state files line) state_now old new)
+-- An answer is given: its change, if it tells one, is committed before a byte of the reply is printed. The whole reply is
+-- printed, or a front of it where the station failed.
+pub record IsGiven {A E : Type 0} (answer : Answer) (state state_now : State) (old new : StationView) (result : Result A E) : Type 0 where
+  pub printed : Prints (reply_text answer.reply) old new result
+  -- Where all outcomes had one gazetteer, each stop leaves it or the next.
+  pub moments : IsTrue old.is_told → AllHold old state.gaz → LeavesOnly old new (IsBeforeOrAfter state answer old)
+  pub holds : OnOk result (IsTrue old.is_told → AllHold old state.gaz → AllHold new answer.state.gaz)
+  pub state_is : OnOk result (state_now ≡ answer.state)
+  -- Where no change is told, no area is written.
+  pub stays : is_change answer.reply ≡ false → AreasStay old new
 
 -- Some turns answer the first lines, and with them the run keeps the gazetteer.
 pub record RunKeeps (files : Files) (lines : List (List ℕ)) (first : State) (entry exit : StationView) (status : ℕ) : Type 0 where

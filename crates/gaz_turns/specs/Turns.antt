@@ -1,5 +1,5 @@
 -- The replies to request lines, one after another, and the gazetteers between them.
-use Rattle.std.specs.Prelude.{◌≡◌, ℕ, ◌⊎◌, ⊤, ◌++◌, List, [], ◌∷◌, count_by, Bool, true, false, Option, option_to_list, is_none, IsSome, Result, Ok, Err, if◌then◌else◌, slice_get}
+use Rattle.std.specs.Prelude.{◌≡◌, ℕ, ◌⊎◌, ⊤, ◌++◌, List, [], ◌∷◌, count_by, Bool, true, false, Option, option_to_list, is_none, ◌||◌, IsSome, Result, Ok, Err, if◌then◌else◌, slice_get}
 use Rattle.gaz_num.specs.declared.words.FileName.{FileName}
 use Rattle.gaz_num.specs.declared.words.Table.TheVariants.{Rows}
 use Rattle.gaz_num.specs.Words.{file_text}
@@ -32,9 +32,13 @@ pub record Answer : Type 0 where
 abbrev pub same_state : State → Reply → Answer
 same_state state reply = record { reply = reply; state = state }
 
+-- a change that is made
+abbrev pub made : Done → Gazetteer → Answer
+made change gaz = record { reply = done change; state = record { gaz = gaz } }
+
 -- a change that is made, or refused
 abbrev pub changed : State → Done → Result Gazetteer Refusal → Answer
-changed state change (Ok gaz) = record { reply = done change; state = record state { gaz = gaz } }
+changed state change (Ok gaz) = made change gaz
 changed state change (Err why) = same_state state (refused why)
 
 -- the reply, where something was loaded
@@ -146,3 +150,10 @@ is_shelf (shelf file) = true
 -- how many requests the shelf refused
 abbrev pub shelf_refusals : List Turn → ℕ
 shelf_refusals turns = count_by (λ turn. is_shelf turn.verdict) turns
+
+-- whether a change is made in one of the turns
+abbrev pub has_change : State → Files → List Turn → Bool
+has_change state files [] = false
+has_change state files (turn ∷ turns) =
+    let answered = answer_at state files turn in
+    is_change answered.reply || has_change answered.state files turns

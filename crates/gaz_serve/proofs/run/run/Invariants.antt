@@ -1,8 +1,8 @@
-use Rattle.std.proofs.Common.{◌≡◌, ◌⊎◌}
+use Rattle.std.proofs.Common.{◌≡◌, ◌⊎◌, IsTrue}
 use Rattle.std.specs.Prelude.{IfSome, []}
-use Rattle.gaz_outside.specs.Outside.{SameFiles, SameNumbers, left_of, files_of, printed_of}
-use Rattle.gaz_outside.specs.Station.{AreasStay}
+use Rattle.gaz_outside.specs.Outside.{SameFiles, SameNumbers, left_of, files_of}
 use Rattle.gaz_lines.specs.Cutter.{rest, pending, line_of, HasEnded, MayReadSource, line_limit_of, allowed_of}
+use Rattle.gaz_open.specs.Fits.{Fits}
 use Rattle.gaz_serve.specs.Change.{NoneOpen}
 use Rattle.gaz_serve.specs.Ran.{IsHeard}
 use Rattle.gaz_serve.proofs.Running.{UnderWay}
@@ -11,8 +11,9 @@ use Rattle.gaz_serve.proofs.run.run.Given as goal
 
 abbrev pub invariant-loop-line : goal.invariant-loop-line
 invariant-loop-line g l = record {
-  way : IfSome (files_of (g.F.Shelf.view l.fn.shelf)) (λ files. UnderWay files (left_of (g.S.Source.view l.fn.source)) (rest l.cutter (left_of (g.S.Source.view l.source))) (line_of l.cutter) l.session
-      (g.F.Shelf.view l.fn.shelf).faults (g.F.Shelf.view l.shelf).faults (printed_of (g.T.Station.view l.fn.station)) (printed_of (g.T.Station.view l.station)));
+  way : IfSome (files_of (g.F.Shelf.view l.fn.shelf)) (λ files. UnderWay l.fn.session.state files (left_of (g.S.Source.view l.fn.source)) (rest l.cutter (left_of (g.S.Source.view l.source))) (line_of l.cutter) l.session.state
+      (g.F.Shelf.view l.fn.shelf).faults (g.F.Shelf.view l.shelf).faults (g.T.Station.view l.fn.station) (g.T.Station.view l.station));
+  fits : IsTrue (g.T.Station.view l.station).is_told → Fits l.session.side (g.T.Station.view l.station);
   line_limit : line_limit_of l.cutter ≡ 4096;
   reads : MayReadSource l.cutter;
   ended : HasEnded l.cutter → IfSome (left_of (g.S.Source.view l.source)) (λ bytes. bytes ≡ []);
@@ -23,7 +24,6 @@ invariant-loop-line g l = record {
   source : (g.S.Source.view l.source).faults ≡ (g.S.Source.view l.fn.source).faults;
   station : (g.T.Station.view l.station).faults ≡ (g.T.Station.view l.fn.station).faults;
   told : (g.T.Station.view l.station).is_told ≡ (g.T.Station.view l.fn.station).is_told;
-  areas : AreasStay (g.T.Station.view l.fn.station) (g.T.Station.view l.station);
 }
 
 abbrev pub decreases-loop-line : goal.decreases-loop-line

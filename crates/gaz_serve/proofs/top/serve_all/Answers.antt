@@ -1,50 +1,75 @@
-use Rattle.std.proofs.Common.{refl, subst, arith, inl, inr}
-use Rattle.gaz_outside.specs.Outside.{left_of, printed_of}
-use Rattle.gaz_outside.proofs.Runs.{areas_stay_same}
-use Rattle.gaz_serve.specs.Ran.{ServeRan}
-use Rattle.gaz_serve.proofs.Changing.{weaker, always}
-use Rattle.gaz_serve.proofs.Answered.{answered, run_starved, with_starved, not_five}
-use Rattle.gaz_serve.proofs.Taken.{taken_nothing}
+use Rattle.std.proofs.Common.{◌≡◌, ℕ, refl, ap, sym, subst, arith, inl, inr, ◌∙◌, Option, Some, None}
+use Rattle.std.specs.Prelude.{unwrap_or}
+use Rattle.gaz_outside.specs.Outside.{RisesOnce, left_of}
+use Rattle.gaz_plain.specs.Gazetteer.{Gazetteer, empty}
+use Rattle.gaz_serve.proofs.Changing.{weaker}
+use Rattle.gaz_serve.proofs.Answered.{answered, run_opened, with_unopened, opened_status}
+use Rattle.gaz_serve.proofs.Unopened.{opens_nothing, ran_unopened}
 use Rattle.gaz_serve.proofs.top.serve_all.Goals as goal
 
-pub returns-in-Ok : goal.returns-in-Ok
-returns-in-Ok g c =
-    let e = c.run.ensures in
-    let others = with_starved c.run.result e.others in
-    subst (λ station. ServeRan g.S.Source.view g.F.Shelf.view g.T.Station.view c.args.requests.now c.run.new.source c.args.shelf.now c.run.new.shelf station c.run.new.station c.run.result) c.reserve_session.ensures.station
-    (record {
-      answers = weaker _ (λ files run. answered files (left_of (g.S.Source.view c.args.requests.now)) _ (g.S.Source.view c.args.requests.now).faults (g.S.Source.view c.run.new.source).faults (g.F.Shelf.view c.args.shelf.now).faults (g.F.Shelf.view c.run.new.shelf).faults (g.T.Station.view c.reserve_session.new.station).faults (g.T.Station.view c.run.new.station).faults (printed_of (g.T.Station.view c.reserve_session.new.station)) (printed_of (g.T.Station.view c.run.new.station)) c.run.result run e.station e.source others) e.answers;
-      emptied = e.emptied;
-      taken = e.taken;
-      untouched = λ is. absurd (not_five c.run.result e.others is);
-      same = e.same;
-      numbers = e.numbers;
-      station_failed = e.station;
-      station_kept = e.station_kept;
-      source_failed = e.source;
-      source_kept = e.source_kept;
-      told = e.told;
-      areas = e.areas;
-      others = others;
-    })
+pub returns-in-Err : goal.returns-in-Err
+returns-in-Err g c =
+    ran_unopened g.S.Source.view g.F.Shelf.view g.T.Station.view c.args.requests.now c.args.shelf.now c.args.station.now c.args.station.now 5 (inr (inl refl)) (g.met.F.Shelf.faults_fit c.args.shelf.now)
+    (opens_nothing (g.T.Station.view c.args.station.now) (λ o told left. g.met.T.Station.only_now c.args.station.now o told left))
+    (λ t o told le leaves. g.met.T.Station.counts_now c.args.station.now t o told le leaves)
+    (λ is. absurd (omega (arith, is))) (λ is. absurd (omega (arith, is))) (λ is. refl)
+
+pub returns-in-Err-Station : goal.returns-in-Err-Station
+returns-in-Err-Station g c =
+    let e = c.start.ensures in
+    ran_unopened g.S.Source.view g.F.Shelf.view g.T.Station.view c.args.requests.now c.args.shelf.now c.args.station.now c.start.new.station 3 (inl refl) (g.met.F.Shelf.faults_fit c.args.shelf.now)
+    (record { told = e.told; printed = e.printed; moments = e.moments; untouched = e.untouched; unwritten = e.unwritten })
+    (λ t o told le leaves. g.met.T.Station.counts_now c.start.new.station t o told le leaves)
+    (λ is. absurd (omega (arith, is))) (λ is. rw c.in-Err-Station.field-0-is at c.in-Err-Station.ensures.cause) (λ is. absurd (is refl))
 
 pub returns-in-Err-Memory : goal.returns-in-Err-Memory
 returns-in-Err-Memory g c =
-    subst (λ station. ServeRan g.S.Source.view g.F.Shelf.view g.T.Station.view c.args.requests.now c.args.requests.now c.args.shelf.now c.args.shelf.now station c.reserve_session.new.station 5) c.reserve_session.ensures.station
-    (record {
-      answers = always _
-          (λ files. answered files (left_of (g.S.Source.view c.args.requests.now)) _ (g.S.Source.view c.args.requests.now).faults (g.S.Source.view c.args.requests.now).faults (g.F.Shelf.view c.args.shelf.now).faults (g.F.Shelf.view c.args.shelf.now).faults (g.T.Station.view c.reserve_session.new.station).faults (g.T.Station.view c.reserve_session.new.station).faults (printed_of (g.T.Station.view c.reserve_session.new.station)) (printed_of (g.T.Station.view c.reserve_session.new.station)) 5
-          (run_starved files _ _ _ _ 5 (g.met.F.Shelf.faults_fit c.args.shelf.now) refl) (λ is. absurd (omega (arith, is))) (λ is. absurd (omega (arith, is))) (inr (inr (inr (inl refl)))));
-      emptied = λ is. absurd (omega (arith, is));
-      taken = taken_nothing 65536 _;
-      untouched = λ is. (refl, refl, refl);
-      same = record { told = refl; files = refl };
-      numbers = inl (λ n. refl);
-      station_failed = λ is. absurd (omega (arith, is));
-      station_kept = λ is. refl;
-      source_failed = λ is. absurd (omega (arith, is));
-      source_kept = λ is. refl;
-      told = refl;
-      areas = areas_stay_same _;
-      others = inr (inr (inr (inl refl)));
-    })
+    let e = c.start.ensures in
+    ran_unopened g.S.Source.view g.F.Shelf.view g.T.Station.view c.args.requests.now c.args.shelf.now c.args.station.now c.start.new.station 5 (inr (inl refl)) (g.met.F.Shelf.faults_fit c.args.shelf.now)
+    (record { told = e.told; printed = e.printed; moments = e.moments; untouched = e.untouched; unwritten = e.unwritten })
+    (λ t o told le leaves. g.met.T.Station.counts_now c.start.new.station t o told le leaves)
+    (λ is. absurd (omega (arith, is))) (λ is. absurd (omega (arith, is))) (λ is. rw c.in-Err-Memory.field-0-is at c.in-Err-Memory.ensures.cause)
+
+pub returns : goal.returns
+returns g c =
+    let e = c.start.ensures in
+    ran_unopened g.S.Source.view g.F.Shelf.view g.T.Station.view c.args.requests.now c.args.shelf.now c.args.station.now c.start.new.station 6 (inr (inr refl)) (g.met.F.Shelf.faults_fit c.args.shelf.now)
+    (record { told = e.told; printed = e.printed; moments = e.moments; untouched = e.untouched; unwritten = e.unwritten })
+    (λ t o told le leaves. g.met.T.Station.counts_now c.start.new.station t o told le leaves)
+    (λ is told. c.in-Err-NotAMirror.ensures.none told _ c.in-Err-NotAMirror.field-0-is) (λ is. absurd (omega (arith, is))) (λ is. rw c.in-Err-NotAMirror.field-0-is at c.in-Err-NotAMirror.ensures.cause)
+
+some_none : {A : Type 0} (o : Option Gazetteer) (gaz : Gazetteer) → o ≡ Some gaz → o ≡ None → A
+some_none None gaz some none = absurd (cc)
+some_none (Some x) gaz some none = absurd (cc)
+
+pub returns-in-Ok-start : goal.returns-in-Ok-start
+returns-in-Ok-start g c =
+    let e = c.run.ensures in
+    let s = c.start.ensures in
+    let old = g.T.Station.view c.args.station.now in
+    let mid = g.T.Station.view c.start.new.station in
+    let new = g.T.Station.view c.run.new.station in
+    let others = with_unopened c.run.result e.others in
+    let faults = c.in-Ok-start.ensures.cause in
+    let failed : c.run.result ≡ 3 → RisesOnce old.faults new.faults = λ is. subst (λ (n : ℕ). RisesOnce n new.faults) faults (e.station is) in
+    record {
+      first = c.in-Ok-start.session.state;
+      first_is = λ told. ap (λ (o : Option Gazetteer). record { gaz = unwrap_or o empty }) (sym (c.in-Ok-start.ensures.state told));
+      answers = weaker _ (λ files run.
+          answered c.in-Ok-start.session.state files (left_of (g.S.Source.view c.args.requests.now)) (left_of (g.S.Source.view c.run.new.source)) (g.S.Source.view c.args.requests.now).faults (g.S.Source.view c.run.new.source).faults (g.F.Shelf.view c.args.shelf.now).faults (g.F.Shelf.view c.run.new.shelf).faults old new c.run.result
+          (run_opened c.in-Ok-start.session.state files _ _ _ _ old mid new c.run.result (record { told = s.told; printed = s.printed; moments = s.moments; untouched = s.untouched; unwritten = s.unwritten }) c.in-Ok-start.ensures.holds run)
+          failed e.source others) e.answers;
+      none = λ is. opened_status c.run.result e.others (inr is);
+      undefined = λ told is. some_none _ _ (c.in-Ok-start.ensures.state told) is;
+      unopened = λ is. opened_status c.run.result e.others is;
+      emptied = e.emptied;
+      taken = e.taken;
+      same = e.same;
+      numbers = e.numbers;
+      station_failed = failed;
+      station_kept = λ is. e.station_kept is ∙ faults;
+      source_failed = e.source;
+      source_kept = e.source_kept;
+      told = e.told ∙ s.told;
+      others = others;
+    }

@@ -1,0 +1,71 @@
+-- A run of the program in which no mirror opened.
+use Rattle.std.proofs.Common.{◌≡◌, ◌≢◌, ◌⊎◌, inl, inr, ◌^◌, ◌<◌, ◌≤◌, ℕ, Bool, IsTrue, arith, refl, sym, subst, None}
+use Rattle.gaz_outside.specs.Outside.{SourceView, ShelfView, StationView, RisesOnce, left_of}
+use Rattle.gaz_outside.specs.Station.{Outcome, Leaves}
+use Rattle.gaz_outside.proofs.Runs.{begins, confined_start}
+use Rattle.gaz_redo.specs.Slots.{SameBytes}
+use Rattle.gaz_open.specs.Content.{mirror_in}
+use Rattle.gaz_open.specs.Holds.{IsStill}
+use Rattle.gaz_turns.proofs.Told.{same_printed}
+use Rattle.gaz_turns.proofs.Underway.{ends_early}
+use Rattle.gaz_serve.specs.Ran.{state_in, IsUnopened, ServeRan}
+use Rattle.gaz_serve.proofs.Changing.{always}
+use Rattle.gaz_serve.proofs.Answered.{IsOpening, answered, run_unopened, unlike}
+use Rattle.gaz_serve.proofs.Taken.{taken_nothing}
+
+-- no call yet
+pub opens_nothing : (v : StationView) → ((c : Outcome) → IsTrue v.is_told → v.left_since v.moment c → Leaves v c) → IsOpening v v
+opens_nothing v only = record {
+  told = refl;
+  printed = λ told. refl;
+  moments = λ told first holds. begins v (IsStill first v) (λ c left. let now = only c told left in (holds c now, now.text));
+  untouched = λ told nothing. confined_start SameBytes (λ a d. refl) v (λ c left. only c told left);
+  unwritten = λ told nothing. refl;
+}
+
+-- a status of these is no other
+no_status : {A : Type 0} (status n : ℕ) → (status ≡ 3) ⊎ (status ≡ 5) ⊎ (status ≡ 6) → (n < 3) ⊎ (n ≡ 4) → status ≡ n → A
+no_status status n why (inl few) is = unlike status n why is (λ e. absurd (omega (arith, few, e))) (λ e. absurd (omega (arith, few, e))) (λ e. absurd (omega (arith, few, e)))
+no_status status n why (inr four) is = unlike status n why is (λ e. absurd (omega (arith, four, e))) (λ e. absurd (omega (arith, four, e))) (λ e. absurd (omega (arith, four, e)))
+
+of_all : (status : ℕ) → (status ≡ 3) ⊎ (status ≡ 5) ⊎ (status ≡ 6) → (status ≡ 0) ⊎ (status ≡ 3) ⊎ (status ≡ 4) ⊎ (status ≡ 5) ⊎ (status ≡ 6) ⊎ (status ≡ 7)
+of_all status (inl is) = inr (inl is)
+of_all status (inr (inl is)) = inr (inr (inr (inl is)))
+of_all status (inr (inr is)) = inr (inr (inr (inr (inl is))))
+
+module _ {S F T : Type 0} (source : S → SourceView) (shelf : F → ShelfView) (station : T → StationView) (s : S) (f : F) (old new : T) where
+  pub ran_unopened : (status : ℕ) → (status ≡ 3) ⊎ (status ≡ 5) ⊎ (status ≡ 6) → (shelf f).faults < 2 ^ 64 → IsOpening (station old) (station new)
+      → ((t : ℕ) (c : Outcome) → IsTrue (station new).is_told → t ≤ (station new).moment → Leaves (station new) c → (station new).left_since t c)
+      → (status ≡ 6 → IsTrue (station old).is_told → mirror_in (station old).bytes ≡ None)
+      → (status ≡ 3 → RisesOnce (station old).faults (station new).faults) → (status ≢ 3 → (station new).faults ≡ (station old).faults)
+      → ServeRan source shelf station s s f f old new status
+  ran_unopened status why fits opening counts none failed kept =
+      let first = state_in (station old).bytes in
+      let printed = same_printed (station old) (station new) opening.told opening.printed in
+      let unopened : IsUnopened s s f f (station old) (station new) status = record { why = why; source = refl; shelf = refl; printed = printed } in
+      record {
+        first = first;
+        first_is = λ told. refl;
+        answers = always _ (λ files.
+            answered first files (left_of (source s)) (left_of (source s)) (source s).faults (source s).faults (shelf f).faults (shelf f).faults (station old) (station new) status
+            (run_unopened first files (left_of (source s)) (shelf f).faults (station old) (station new) status fits why printed
+            (λ told holds. ends_early files first.gaz (station old) (station new) status (opening.moments told first.gaz holds) (opening.printed told) (λ t c le leaves. counts t c (still told) le leaves))
+            (λ told nothing. record { bytes = (opening.untouched told nothing).bytes; writes = opening.unwritten told nothing }))
+            failed (λ is. no_status status 4 why (inr refl) is) (of_all status why));
+        none = none;
+        undefined = λ told is. unopened;
+        unopened = λ is. unopened;
+        emptied = λ is. no_status status 0 why (inl (omega arith)) is;
+        taken = taken_nothing 65536 (left_of (source s));
+        same = record { told = refl; files = refl };
+        numbers = inl (λ n. refl);
+        station_failed = failed;
+        station_kept = kept;
+        source_failed = λ is. no_status status 4 why (inr refl) is;
+        source_kept = λ is. refl;
+        told = opening.told;
+        others = of_all status why;
+      }
+    where
+      still : IsTrue (station old).is_told → IsTrue (station new).is_told
+      still told = subst (λ (b : Bool). IsTrue b) (sym opening.told) told

@@ -1,0 +1,74 @@
+//! One request is one step: it is read, met, and its reply is printed.
+ghost use Rattle.std.specs.Prelude.{◌≡◌, Ok, IsTrue, IfSome, OnOk};
+ghost use Rattle.gaz_outside.specs.Outside.{HasCause, SameFiles, files_of};
+ghost use Rattle.gaz_open.specs.Fits.{Fits};
+ghost use Rattle.gaz_words.specs.Grammar.{request_in};
+ghost use Rattle.gaz_turns.specs.Turns.{opens};
+ghost use Rattle.gaz_serve.specs.Change.{Closes};
+ghost use Rattle.gaz_serve.specs.Step.{Meets, OneStep};
+
+use crate::session::Session;
+use gaz_outside::{Failed, Shelf, Station};
+use gaz_reply::{Done, Refusal, write_refusal};
+use gaz_words::{Request, read_request};
+
+/// Why a session ends with a request.
+#[derive(Clone, Copy, Debug, PartialEq, Eq)]
+pub enum EndFault {
+    /// The station failed.
+    Station,
+}
+
+/// Answers a request that was read.
+fn answer_request<F: Shelf, T: Station>(
+    session: &mut Session,
+    shelf: &mut F,
+    station: &mut T,
+    request: &Request,
+) -> Result<(), Failed>
+    requires fits { IsTrue (T.view station.old).is_told → Fits session.old.side (T.view station.old) }
+    ensures step { IfSome (files_of (F.view shelf.old)) (λ files. Meets files request.now session.old.state session.new.state (F.view shelf.old) (F.view shelf.new) (T.view station.old) (T.view station.new) result) }
+    ensures fits { OnOk result (IsTrue (T.view station.old).is_told → Fits session.new.side (T.view station.new)) }
+    ensures closes { Closes (opens session.old.state (Ok request.now)) (F.view shelf.old) (F.view shelf.new) }
+    ensures same { SameFiles (F.view shelf.old) (F.view shelf.new) }
+    ensures told { (T.view station.new).is_told ≡ (T.view station.old).is_told }
+    ensures cause { HasCause (T.view station.old).faults (T.view station.new).faults result }
+{
+    match request {
+        Request::Load(date) => {
+            let made = session.load(shelf, *date);
+            session.finish(station, Done::Load(*date), made)
+        }
+        Request::Day(date) => {
+            let made = session.day(shelf, *date);
+            session.finish(station, Done::Day(*date), made)
+        }
+        Request::Get(id) => session.tell_place(station, *id),
+    }
+}
+
+/// Answers one request line, given without its LF: a load or a day that is accepted is stored, and then the reply is printed.
+/// After `Station` a front of the reply was printed, and the session is at its end.
+pub fn answer<F: Shelf, T: Station>(
+    session: &mut Session,
+    shelf: &mut F,
+    station: &mut T,
+    line: &[u8],
+) -> Result<(), EndFault>
+    requires fits { IsTrue (T.view station.old).is_told → Fits session.old.side (T.view station.old) }
+    ensures step { IfSome (files_of (F.view shelf.old)) (λ files. OneStep files line.now session.old.state session.new.state (F.view shelf.old) (F.view shelf.new) (T.view station.old) (T.view station.new) result) }
+    ensures fits { OnOk result (IsTrue (T.view station.old).is_told → Fits session.new.side (T.view station.new)) }
+    ensures closes { Closes (opens session.old.state (request_in line.now)) (F.view shelf.old) (F.view shelf.new) }
+    ensures same { SameFiles (F.view shelf.old) (F.view shelf.new) }
+    ensures told { (T.view station.new).is_told ≡ (T.view station.old).is_told }
+    ensures cause { HasCause (T.view station.old).faults (T.view station.new).faults result }
+{
+    let told = match read_request(line) {
+        Ok(request) => answer_request(session, shelf, station, &request),
+        Err(bad) => write_refusal(station, &Refusal::Request(bad.word())),
+    };
+    match told {
+        Ok(()) => Ok(()),
+        Err(Failed) => Err(EndFault::Station),
+    }
+}
