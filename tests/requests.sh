@@ -1,5 +1,6 @@
 #!/usr/bin/env bash
-# `serve` over a folder of files, through standard input and output: what it prints, and with which status.
+# `serve` over a folder of files, through standard input and output: what it prints, and with which status. tests/mirror.sh
+# has what it keeps from one run to the next.
 set -u
 . "$(dirname "$0")/lib/expect.bash"
 
@@ -9,15 +10,15 @@ cd "$folder" || exit 1
 printf '3\tC\tgone\n' > deletes-2024-03-02.txt
 
 expect no_requests 0 '' serve < /dev/null
-expect a_load_and_a_get 0 $'ok load 2024-03-01\n'"$(row 2 B 2)"$'\nok 1\nok 0\n' serve <<< $'load 2024-03-01\nget 2\nget 4'
-expect no_lf_at_the_end 0 $'refused notloaded\n' serve < <(printf 'get 1')
-expect a_day 0 $'ok load 2024-03-01\nok day 2024-03-02\n'"$(row 2 X 9)"$'\nok 1\nok 0\n' serve <<< $'load 2024-03-01\nday 2024-03-02\nget 2\nget 3'
-expect a_long_request 0 $'refused request length\nrefused notloaded\n' serve < <(head -c 4097 /dev/zero | tr '\0' g; printf '\nget 1\n')
+expect_anew a_load_and_a_get 0 $'ok load 2024-03-01\n'"$(row 2 B 2)"$'\nok 1\nok 0\n' serve <<< $'load 2024-03-01\nget 2\nget 4'
+expect_anew no_lf_at_the_end 0 $'refused notloaded\n' serve < <(printf 'get 1')
+expect_anew a_day 0 $'ok load 2024-03-01\nok day 2024-03-02\n'"$(row 2 X 9)"$'\nok 1\nok 0\n' serve <<< $'load 2024-03-01\nday 2024-03-02\nget 2\nget 3'
+expect_anew a_long_request 0 $'refused request length\nrefused notloaded\n' serve < <(head -c 4097 /dev/zero | tr '\0' g; printf '\nget 1\n')
 expect a_request_that_just_fits 0 $'refused request verb\n' serve < <(head -c 4096 /dev/zero | tr '\0' g)
 expect bytes_that_are_no_text 0 $'refused request utf8\n' serve < <(printf 'get \xff\n')
-expect no_file 0 $'ok load 2024-03-02\nrefused absent modifications-2024-03-03.txt\n' serve <<< $'load 2024-03-02\nday 2024-03-03'
+expect_anew no_file 0 $'ok load 2024-03-02\nrefused absent modifications-2024-03-03.txt\n' serve <<< $'load 2024-03-02\nday 2024-03-03'
 mkdir modifications-2024-03-03.txt
-expect a_folder_in_place_of_a_file 0 $'ok load 2024-03-02\nrefused shelf modifications-2024-03-03.txt\n' serve <<< $'load 2024-03-02\nday 2024-03-03'
+expect_anew a_folder_in_place_of_a_file 0 $'ok load 2024-03-02\nrefused shelf modifications-2024-03-03.txt\n' serve <<< $'load 2024-03-02\nday 2024-03-03'
 rmdir modifications-2024-03-03.txt
 expect words_behind_serve 2 '' serve now < /dev/null
 
@@ -30,9 +31,10 @@ for day in 2024-02-26 2024-02-27 2024-02-28 2024-02-29 2024-03-01 2024-03-02 202
     requests+="day $day"$'\nget 2\n'
     replies+="ok day $day"$'\n'"$(row 2 "$day" 7)"$'\nok 1\n'
 done
-expect ten_days 0 "$replies" serve <<< "${requests%$'\n'}"
+expect_anew ten_days 0 "$replies" serve <<< "${requests%$'\n'}"
 
 # A reply comes before the next request is sent.
+remove_mirror
 mkfifo in out
 timeout 10 "$program" serve < in > out &
 exec 3> in 4< out

@@ -15,6 +15,17 @@ expect() {
     check "$name" "$got" "$text""status $status"
 }
 
+# expect_anew NAME STATUS TEXT WORDS..: the same, begun with no mirror in the current folder.
+expect_anew() {
+    remove_mirror
+    expect "$@"
+}
+
+# The five files of a mirror.
+mirror=(mirror.left mirror.log mirror.mark mirror.right mirror.root)
+
+remove_mirror() { rm -f "${mirror[@]}"; }
+
 # check NAME GOT WANTED
 check() {
     if [ "$2" = "$3" ]; then
