@@ -3,10 +3,15 @@
 set -u
 . "$(dirname "$0")/lib/expect.bash"
 
-# session COMMAND: what the README shows behind the line `    $ COMMAND`, up to the next blank line, without its indent.
-session() { awk -v wanted="    \$ $1" '$0 == wanted { inside = 1; next } inside && /^$/ { exit } inside { print substr($0, 5) }' "$top/README.md"; }
+# session COMMAND: what the README shows behind the line `    $ COMMAND`, up to the next command or blank line, without its indent.
+session() { awk -v wanted="    \$ $1" '$0 == wanted { inside = 1; next } inside && (/^$/ || /^    \$ /) { exit } inside { print substr($0, 5) }' "$top/README.md"; }
 
 check scan_of_three_places "$("$program" scan 2 < "$top/examples/three_places.txt")" "$(session './gaz scan 2 < examples/three_places.txt')"
-check the_first_day "$(cd "$top/examples/first_day" && "$program" serve < requests.txt)" "$(session '(cd examples/first_day && ../../gaz serve < requests.txt)')"
+
+# In a copy, as there: the mirror that it leaves isn't to lie among the examples, nor to be found by the next run of this.
+cp "$top"/examples/first_day/* "$folder" && cd "$folder" || exit 1
+check the_first_day "$("$program" serve < requests.txt)" "$(session '$gaz serve < requests.txt')"
+check the_next_run "$("$program" serve <<< 'get 104')" "$(session "\$gaz serve <<< 'get 104'")"
+check examples_stay_clean "$(cd "$top/examples" && find . -name 'mirror.*')" ''
 
 finish
