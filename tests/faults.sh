@@ -1,5 +1,5 @@
 #!/usr/bin/env bash
-# Input that can't be read and output that can't be written: each has its status.
+# Input that can't be read, output that can't be written and a mirror that can't be stored: each has its status.
 set -u
 . "$(dirname "$0")/lib/expect.bash"
 
@@ -25,8 +25,9 @@ if strace -o "$folder/trace" true 2> /dev/null; then
     { row 1 A 1; echo; } > allCountries.txt
     printf 'load 2024-03-01\nload 2024-03-01\n' > requests
     loaded=$'ok load 2024-03-01\n'
-    # serve_with FILE FAULT: two loads, where a call on the file meets the fault.
+    # serve_with FILE FAULT: two loads into an empty mirror, where a call on the file meets the fault.
     serve_with() {
+        remove_mirror
         strace -qq -o trace -P "$1" -e "inject=$2" "$program" serve < requests 2> trace.err
         echo "status $?"
     }
@@ -37,6 +38,47 @@ if strace -o "$folder/trace" true 2> /dev/null; then
     check an_interrupted_read "$(serve_with requests read:error=EINTR:when=1..3)" "$loaded${loaded}status 0"
     check a_read_that_fails "$(serve_with requests read:error=EIO:when=1)" 'status 4'
     check a_read_that_fails_at_the_end "$(serve_with requests read:error=EIO:when=2)" "$loaded${loaded}status 4"
+
+    # Calls on the five files and the folder, of which each fails in turn while a load is stored over another one: the run ends
+    # with status 3 and prints nothing, and the next one answers from before the load or from after it.
+    mkdir saved
+    remove_mirror
+    "$program" serve <<< 'load 2024-03-01' > trace.out
+    cp "${mirror[@]}" saved
+    { row 1 B 2; echo; } > allCountries.txt
+    echo 'load 2024-03-02' > requests
+    # serve_over CALL FAULT: the second load, where a call on them meets the fault.
+    serve_over() {
+        cp saved/* .
+        strace -qq -o trace -P mirror.mark -P mirror.log -P mirror.root -P mirror.left -P mirror.right -P . -e "trace=$1" -e "inject=$1:$2" "$program" serve < requests 2> trace.err
+        echo "status $?"
+    }
+    answers() { "$program" serve <<< $'get 1\nday 2000-01-01'; echo "status $?"; }
+    before="$(row 1 A 1)"$'\nok 1\nrefused sequence 2024-03-01\nstatus 0'
+    after="$(row 1 B 2)"$'\nok 1\nrefused sequence 2024-03-02\nstatus 0'
+    for call in openat flock statx pread64 pwrite64 fdatasync fsync; do
+        failed_before=0
+        failed_after=0
+        for number in $(seq 100); do
+            got=$(serve_over "$call" "error=EIO:when=$number")
+            grep -q INJECTED trace || break
+            check "failed_${call}_$number" "$got" 'status 3'
+            got=$(answers)
+            if [ "$got" = "$after" ]; then
+                failed_after=$((failed_after + 1))
+            else
+                check "answers_behind_failed_${call}_$number" "$got" "$before"
+                failed_before=$((failed_before + 1))
+            fi
+        done
+        check "no_failed_$call" "$got" $'ok load 2024-03-02\nstatus 0'
+        check "some_failed_$call" "$((failed_before + failed_after > 0))" 1
+        echo "$call failed at each of its calls: $failed_before answers from before the load, $failed_after from after it"
+    done
+    for call in pread64 pwrite64 fdatasync; do
+        check "an_interrupted_$call" "$(serve_over "$call" error=EINTR:when=1..3)" $'ok load 2024-03-02\nstatus 0'
+        check "answers_behind_an_interrupted_$call" "$(answers)" "$after"
+    done
 fi
 
 finish
