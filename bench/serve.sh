@@ -1,11 +1,12 @@
 #!/usr/bin/env bash
-# bench/serve.sh ROWS GETS: a load of ROWS made rows and GETS gets of them in one run of `serve`, and the same ids from a
-# table of sqlite3 with a primary key, in one run of this script. Each reply is printed before the next request is read.
+# bench/serve.sh ROWS GETS: a load of ROWS made rows, that load and GETS gets of them, and the gets of the mirror that it leaves,
+# each in one run of `serve`, and the same ids from a table of sqlite3 with a primary key, in one run of this script. Each reply
+# is printed before the next request is read.
 set -eu
 top=$(cd "$(dirname "$0")/.." && pwd)
 rows=${1:?rows}
 gets=${2:?gets}
-folder=$(mktemp -d)
+folder=$(cd "$(mktemp -d -p "${BENCH_FOLDER:-.}")" && pwd)
 trap 'rm -rf "$folder"' EXIT
 cd "$folder"
 mawk -v n="$rows" 'BEGIN { for (i = 1; i <= n; i++)
@@ -25,8 +26,11 @@ measure() { # NAME INPUT COMMAND..
     mawk -v s="$seconds" -v m="$memory" -v n="$name" 'BEGIN { printf "%-22s %.2f s  %.0f MB peak\n", n, s, m / 1024 }'
 }
 for _ in 1 2 3; do
+    rm -f mirror.*
     measure serve_load load.txt "$program" serve
+    rm -f mirror.*
     measure serve_load_and_gets requests.txt "$program" serve
+    measure serve_gets gets.txt "$program" serve
     if command -v sqlite3 > /dev/null; then
         rm -f rows.db
         printf '.mode ascii\n.separator "\\001" "\\n"\nCREATE TABLE rows (id INTEGER PRIMARY KEY, line TEXT);\nCREATE TABLE lines (line TEXT);\n.import allCountries.txt lines\nINSERT OR REPLACE INTO rows SELECT CAST(line AS INTEGER), line FROM lines;\nDROP TABLE lines;\n' > load.sql
@@ -35,5 +39,5 @@ for _ in 1 2 3; do
     fi
 done
 if command -v sqlite3 > /dev/null; then
-    grep -v '^ok' serve_load_and_gets.out | cmp - sqlite3_gets.out && echo "same rows"
+    for name in serve_load_and_gets serve_gets; do grep -v '^ok' $name.out | cmp - sqlite3_gets.out && echo "$name: same rows"; done
 fi
