@@ -47,6 +47,16 @@ check the_day_stays "$(places .)" "$after_a_day"
 expect the_same_day_again 0 $'refused sequence 2024-03-02\n' serve <<< 'day 2024-03-02'
 check only_the_mirror_was_made "$(ls -A | grep -v -e '^allCountries.txt$' -e '^modifications-' -e '^deletes-')" "$(printf '%s\n' "${mirror[@]}")"
 
+# A day is stored and synced before its reply is printed: the text, the log, the gate, the page, the gate.
+if strace -o ../trace true 2> /dev/null; then
+    mkdir ../ordered && cp "${mirror[@]}" *-2024-03-03.txt ../ordered && cd ../ordered || exit 1
+    strace -y -o ../trace -e trace=pwrite64,fdatasync,write "$program" serve <<< 'day 2024-03-03' > ../reply
+    check the_order_of_calls "$(sed -n -E 's/^(pwrite64|fdatasync|write)\([0-9]+<[^>]*\/([^>/]*)>.*= .*/\1 \2/p' ../trace | uniq | tr '\n' ' ')" \
+        "$(printf 'fdatasync mirror.%s ' mark log root left right)$(printf 'pwrite64 mirror.%s fdatasync mirror.%s ' left left log log mark mark root root mark mark)write reply "
+    check the_reply "$(cat ../reply)" 'ok day 2024-03-03'
+    cd ../first || exit 1
+fi
+
 # A run that only asks, and a scan, leave the five files as they are.
 before=$(sums .)
 places . > /dev/null
