@@ -124,6 +124,25 @@ rm mirror.log && mkdir mirror.log
 expect a_folder_as_area 3 '' serve <<< 'get 1'
 rmdir mirror.log
 
+# Where memory is wanting, a mirror of 20,000 rows isn't opened, and its files stay. A stack that can't grow ends the program
+# by a signal, 139 of the shell.
+mkdir ../large && cd ../large || exit 1
+awk -v line="$(row 1 A 1)" 'BEGIN { sub(/^1/, "", line); for (id = 1; id <= 20000; id++) print id line }' > allCountries.txt
+"$program" serve <<< 'load 2024-03-01' > ../reply
+large=$(sums .)
+# get_within KILOBYTES ID: what a run with so much memory answers.
+get_within() { (ulimit -v "$1"; exec "$program" serve <<< "get $2") 2> ../trace; echo "status $?"; }
+limit=1000
+until [ "$(cd ../refused && get_within $limit 1)" = $'refused notloaded\nstatus 0' ] || [ $limit -gt 100000 ]; do limit=$((limit + 100)); done
+unopened=0
+until got=$(get_within $limit 20000); [ "$got" = "$(row 20000 A 1)"$'\nok 1\nstatus 0' ] || [ $limit -gt 100000 ]; do
+    [ "$got" = 'status 139' ] || check no_memory_to_open "$got" 'status 5'
+    [ "$got" = 'status 5' ] && unopened=$((unopened + 1))
+    limit=$((limit + 100))
+done
+check some_memory_opens_it $((unopened > 0 && limit <= 100000)) 1
+check the_large_mirror_stays "$(sums .)" "$large"
+
 # Root writes where others may not.
 if [ "$(id -u)" = 0 ]; then
     echo "skipped: a folder that can't be written, since root may write it"
