@@ -1,29 +1,16 @@
 //! Runs of requests, over objects in memory.
-use gaz_outside::{MemShelf, MemSource, MemStation};
+use crate::worked::{
+    A1, B2, C3, DELETES, DUMP, File, MODIFICATIONS, X2, joined, long_row, shelf_of, source_of,
+    station_of, words_of,
+};
+use gaz_outside::MemShelf;
 use gaz_serve::serve;
-use std::alloc::{AllocError, Global};
+use std::alloc::Global;
 use std::process::Abort;
 use std::test::Fail;
 
-const A1: &str = "1\tA\t\t\t0\t0\tP\tPPL\tAA\t\t\t\t\t\t1\t\t\t\t2024-02-01\n";
-
-const B2: &str = "2\tB\t\t\t0\t0\tP\tPPL\tAA\t\t\t\t\t\t2\t\t\t\t2024-02-01\n";
-
-const C3: &str = "3\tC\t\t\t0\t0\tP\tPPL\tAA\t\t\t\t\t\t3\t\t\t\t2024-02-01\n";
-
-const X2: &str = "2\tX\t\t\t0\t0\tP\tPPL\tAA\t\t\t\t\t\t9\t\t\t\t2024-02-01\n";
-
-const DUMP: &str = "allCountries.txt";
-
-const MODIFICATIONS: &str = "modifications-2024-03-02.txt";
-
-const DELETES: &str = "deletes-2024-03-02.txt";
-
 /// A row without its LF.
 const NO_LF: &str = "7\tG\t\t\t0\t0\tP\tPPL\tAA\t\t\t\t\t\t1\t\t\t\t2024-02-01";
-
-/// A file by its name and the texts of which it is made.
-type File<'a> = (&'a str, &'a [&'a str]);
 
 /// A run: the files, the requests, and what it is to print.
 #[derive(Drop)]
@@ -32,28 +19,6 @@ struct Run<'a> {
     files: &'a [File<'a>],
     requests: &'a str,
     text: &'a [&'a str],
-}
-
-fn joined(alloc: Global, pieces: &[&str]) -> Result<Vec<u8>, AllocError> {
-    let mut bytes = Vec::new(alloc);
-    for piece in pieces {
-        bytes.extend_from_slice(piece.as_bytes())?;
-    }
-    Ok(bytes)
-}
-
-fn shelf_of(alloc: Global, files: &[File<'_>], fails: &[u64]) -> Result<MemShelf, AllocError> {
-    let mut shelved = Vec::new(alloc);
-    for (name, pieces) in files {
-        shelved.push((String::from_str(alloc, name)?, joined(alloc, pieces)?))?;
-    }
-    MemShelf::new(shelved, fails.to_vec(alloc)?)
-}
-
-fn words_of(alloc: Global) -> Result<Vec<String>, AllocError> {
-    let mut words = Vec::new(alloc);
-    words.push(String::from_str(alloc, "serve")?)?;
-    Ok(words)
 }
 
 /// Runs the requests over a shelf, and expects this text and status 0.
@@ -65,9 +30,10 @@ fn expect(
     requests: &[u8],
     text: &[&str],
 ) -> Result<(), Fail> {
-    let mut source = MemSource::new(requests.to_vec(alloc)?, Vec::new(alloc));
-    let mut station = MemStation::new(alloc, Vec::new(alloc));
-    let status = serve(alloc, &words_of(alloc)?, &mut source, shelf, &mut station);
+    let words = words_of(alloc, "serve")?;
+    let mut source = source_of(alloc, requests, &[])?;
+    let mut station = station_of(alloc, &[])?;
+    let status = serve(alloc, &words, &mut source, shelf, &mut station);
     let wanted = joined(alloc, text)?;
     assert_eq!(rt; station.printed(), wanted.as_slice(), "{name}");
     assert_eq!(rt; status, 0, "{name}");
@@ -360,20 +326,22 @@ fn a_shelf_that_fails_once(rt: HostRuntime) -> Result<(), Fail> {
     Ok(())
 }
 
+/// The opening makes 7 calls of the station, and the load 11 before it is acknowledged.
 #[test]
 fn a_source_or_a_station_that_fails(rt: HostRuntime) -> Result<(), Fail> {
     let alloc = rt.alloc();
-    let words = words_of(alloc)?;
+    let words = words_of(alloc, "serve")?;
     for (source_fails, station_fails, status, text) in [
         (1, 0, 4, "".as_bytes()),
         (2, 0, 4, b"ok load 2024-03-01\nok 0\n"),
         (0, 1, 3, b""),
-        (0, 2, 3, b"ok load 2024-03-01\n"),
+        (0, 19, 3, b""),
+        (0, 20, 3, b"ok load 2024-03-01\n"),
     ] {
         let mut shelf = shelf_of(alloc, &[(DUMP, &[A1])], &[])?;
-        let requests = joined(alloc, &["load 2024-03-01\nget 2\n"])?;
-        let mut source = MemSource::new(requests, [source_fails].to_vec(alloc)?);
-        let mut station = MemStation::new(alloc, [station_fails].to_vec(alloc)?);
+        let requests = b"load 2024-03-01\nget 2\n";
+        let mut source = source_of(alloc, requests, &[source_fails])?;
+        let mut station = station_of(alloc, &[station_fails])?;
         assert_eq!(rt;
             serve(alloc, &words, &mut source, &mut shelf, &mut station),
             status
@@ -383,39 +351,22 @@ fn a_source_or_a_station_that_fails(rt: HostRuntime) -> Result<(), Fail> {
     Ok(())
 }
 
-/// A row of id 7 with so many bytes, and its LF.
-fn long_row(alloc: Global, size: usize) -> Result<Vec<u8>, AllocError> {
-    let behind = "\t\t\t0\t0\tP\tPPL\tAA\t\t\t\t\t\t1\t\t\t\t2024-02-01";
-    let mut row = joined(alloc, &["7\t"])?;
-    let name = vec![in alloc; b'n'; size.saturating_sub(2 + behind.len())]?;
-    row.extend_from_slice(&name)?;
-    row.extend_from_slice(behind.as_bytes())?;
-    row.extend_from_slice(b"\n")?;
-    Ok(row)
-}
-
 #[test]
 fn the_longest_row(rt: HostRuntime) -> Result<(), Fail> {
     let alloc = rt.alloc();
+    let words = words_of(alloc, "serve")?;
     for (size, fits) in [(65_535, true), (65_536, false)] {
         let row = long_row(alloc, size)?;
         let mut files = Vec::new(alloc);
         files.push((String::from_str(alloc, DUMP)?, row.clone()?))?;
         let mut shelf = MemShelf::new(files, Vec::new(alloc))?;
-        let requests = joined(alloc, &["load 2024-03-01\nget 7\n"])?;
-        let mut source = MemSource::new(requests, Vec::new(alloc));
-        let mut station = MemStation::new(alloc, Vec::new(alloc));
-        let status = serve(
-            alloc,
-            &words_of(alloc)?,
-            &mut source,
-            &mut shelf,
-            &mut station,
-        );
+        let mut source = source_of(alloc, b"load 2024-03-01\nget 7\n", &[])?;
+        let mut station = station_of(alloc, &[])?;
+        let status = serve(alloc, &words, &mut source, &mut shelf, &mut station);
         assert_eq!(rt; status, 0);
         let mut wanted = joined(alloc, &["ok load 2024-03-01\n"])?;
         wanted.extend_from_slice(&row)?;
-        wanted.extend_from_slice(b"ok 1\n")?;
+        wanted.extend_from_slice(b"\nok 1\n")?;
         if fits {
             assert_eq!(rt; station.printed(), wanted.as_slice());
         } else {
