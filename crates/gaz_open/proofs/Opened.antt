@@ -14,7 +14,7 @@ use Rattle.gaz_redo.proofs.Words.{form_from}
 use Rattle.gaz_redo.proofs.Steps.{stays_stable}
 use Rattle.gaz_redo.specs.Form.{IsInForm}
 use Rattle.gaz_redo.specs.Recovered.{AllStable, StandsFor, IsRedone, SlotsToRedo}
-use Rattle.gaz_open.specs.Holds.{AllHold, HasNone, IsStill}
+use Rattle.gaz_open.specs.Holds.{AllHold, HasNone, IsFound, IsStill}
 use Rattle.gaz_num.specs.Numbers.{some_if}
 use Rattle.gaz_page.specs.Root.{root_in, page_in}
 use Rattle.gaz_page.specs.declared.root.PlainRoot.{PlainRoot}
@@ -35,21 +35,29 @@ same_areas f h is = ap mirror_in (λ i a. is a i)
 pub holds_now : (v : StationView) (gaz : Gazetteer) → ((a : Area) → v.may_leave a (v.bytes a)) → AllHold v gaz → mirror_in v.bytes ≡ Some gaz
 holds_now v gaz stay holds = let o : Outcome = record { areas = v.bytes; text = v.printed } in holds o (record { areas = stay; text = refl })
 
+-- what the areas as they read hold
+found_as_it_reads : (v : StationView) (c : Outcome) → ((a : Area) → v.may_leave a (v.bytes a)) → mirror_in c.areas ≡ mirror_in v.bytes → c.text ≡ v.printed → IsFound v c
+found_as_it_reads v c stay same text = (record { areas = v.bytes; text = v.printed }, record { areas = stay; text = refl }, same, text)
+
+-- where all outcomes have one gazetteer, it is this one that is found
+pub found_still : (v : StationView) (gaz : Gazetteer) (c : Outcome) → AllHold v gaz → IsFound v c → IsStill gaz v c
+found_still v gaz c holds found = (found.2 ∙ holds found.0 found.1, found.3)
+
 module _ (v0 v1 : StationView) (run : Confined SameBytes v0 v1) where
   -- while the areas are synced
-  pub while_synced : (gaz : Gazetteer) → AllHold v0 gaz → LeavesOnly v0 v1 (IsStill gaz v0)
-  while_synced gaz holds =
+  pub while_synced : LeavesOnly v0 v1 (IsFound v0)
+  while_synced =
       leaves_weaker v0 v1 _ _
       (λ c near.
       let o : Outcome = record { areas = λ a. (near.areas a).0; text = v0.printed } in
-      (same_areas c.areas o.areas (λ a. (near.areas a).2) ∙ holds o (record { areas = λ a. (near.areas a).1; text = refl }), near.text))
+      (o, record { areas = λ a. (near.areas a).1; text = refl }, same_areas c.areas o.areas (λ a. (near.areas a).2), near.text))
       run.moments
 
   -- while a stop is recovered from
-  pub while_recovered : (v2 : StationView) (gaz : Gazetteer) → ((a : Area) → v0.may_leave a (v0.bytes a)) → AllHold v0 gaz → LeavesOnly v1 v2 (StandsFor v1) → LeavesOnly v0 v2 (IsStill gaz v0)
-  while_recovered v2 gaz stay holds recovers =
-      goes_far v0 v1 v2 _ _ (while_synced gaz holds) recovers
-      (λ c stands. (same_content c.areas v1.bytes stands.0 ∙ same_areas v1.bytes v0.bytes run.bytes ∙ holds_now v0 gaz stay holds, stands.1 ∙ run.printed))
+  pub while_recovered : (v2 : StationView) → ((a : Area) → v0.may_leave a (v0.bytes a)) → LeavesOnly v1 v2 (StandsFor v1) → LeavesOnly v0 v2 (IsFound v0)
+  while_recovered v2 stay recovers =
+      goes_far v0 v1 v2 _ _ while_synced recovers
+      (λ c stands. found_as_it_reads v0 c stay (same_content c.areas v1.bytes stands.0 ∙ same_areas v1.bytes v0.bytes run.bytes) (stands.1 ∙ run.printed))
 
   pub same_form : IsInForm v1.bytes → IsInForm v0.bytes
   same_form form = subst IsInForm (λ i a. run.bytes a i) form
@@ -138,13 +146,10 @@ module _ (v0 v1 v2 : StationView) (settled : IsSettled v0 v1) (run : Confined Sa
   pub pieces_settled : content_pieces (content v0.bytes) ≡ text_pieces (root_in (v1.bytes area.Root))
   pieces_settled = ap content_pieces (sym settled.content ∙ closed_content (is_open (v1.bytes area.Mark)) (is_log v1.bytes) (three v1.bytes) (laid (slots_of (v1.bytes area.Log)) (three v1.bytes)) settled.closed)
 
-  pub while_read : (gaz : Gazetteer) → ((a : Area) → v0.may_leave a (v0.bytes a)) → AllHold v0 gaz → v1.printed ≡ v0.printed → LeavesOnly v0 v1 (IsStill gaz v0) → LeavesOnly v0 v2 (IsStill gaz v0)
-  while_read gaz stay holds printed so_far =
+  pub while_read : ((a : Area) → v0.may_leave a (v0.bytes a)) → v1.printed ≡ v0.printed → LeavesOnly v0 v1 (IsFound v0) → LeavesOnly v0 v2 (IsFound v0)
+  while_read stay printed so_far =
       goes_far v0 v1 v2 _ _ so_far run.moments
-      (λ c near. (
-        same_areas c.areas v1.bytes (λ a. (near.areas a).2 ∙ settled.stable a (near.areas a).0 (near.areas a).1) ∙ settled_same ∙ holds_now v0 gaz stay holds,
-        near.text ∙ printed,
-      ))
+      (λ c near. found_as_it_reads v0 c stay (same_areas c.areas v1.bytes (λ a. (near.areas a).2 ∙ settled.stable a (near.areas a).0 (near.areas a).1) ∙ settled_same) (near.text ∙ printed))
 
   -- what was read before, and for the root page and its text
   pub reads_in_all : (slots : ℕ) → v1.reads ≤ v0.reads + 8 * (slots + 1) → Counts (1 + text_pieces (root_in (v1.bytes area.Root))) 0 v1 v2 → v2.reads ≤ v0.reads + 8 * (slots + 1) + (1 + content_pieces (content v0.bytes))

@@ -12,6 +12,10 @@ AllHold v gaz = (c : Outcome) → Leaves v c → mirror_in c.areas ≡ Some gaz
 abbrev pub HasNone : StationView → Type 0
 HasNone v = (gaz : Gazetteer) → AllHold v gaz → ⊥
 
+-- What some outcome of this moment holds is there, and nothing more is printed.
+abbrev pub IsFound : StationView → Outcome → Type 0
+IsFound v c = (d : Outcome) × Leaves v d × (mirror_in c.areas ≡ mirror_in d.areas) × (c.text ≡ v.printed)
+
 -- The gazetteer still stands, and nothing more is printed.
 abbrev pub IsStill : Gazetteer → StationView → Outcome → Type 0
 IsStill gaz v c = (mirror_in c.areas ≡ Some gaz) × (c.text ≡ v.printed)

@@ -8,7 +8,7 @@ ghost use Rattle.gaz_redo.specs.Slots.{SameBytes};
 ghost use Rattle.gaz_redo.specs.Recovered.{AllStable, OnlyRise, SlotsToRedo};
 ghost use Rattle.gaz_page.specs.Root.{root_in};
 ghost use Rattle.gaz_open.specs.Content.{gaz_in, mirror_in};
-ghost use Rattle.gaz_open.specs.Holds.{AllHold, HasNone, IsStill};
+ghost use Rattle.gaz_open.specs.Holds.{AllHold, HasNone, IsFound};
 ghost use Rattle.gaz_open.specs.Fits.{Fits, Names};
 ghost use Rattle.gaz_open.specs.Opens.{HasLog, HasNoLog, NothingToRedo, FailsOnce, text_pieces, content_pieces};
 
@@ -74,9 +74,8 @@ pub fn open_plain<T: Station>(alloc: Global, station: &mut T) -> Result<PlainMir
     ensures stable { IfOk result (λ mirror. IsTrue (T.view station.old).is_told → AllStable (T.view station.new)) }
     ensures now { IfOk result (λ mirror. IsTrue (T.view station.old).is_told → AllHold (T.view station.new) mirror.gaz) }
 
-    // A stop at any moment leaves the gazetteer that was there.
-    ensures moments { IsTrue (T.view station.old).is_told → (gaz : Gazetteer) → AllHold (T.view station.old) gaz
-        → LeavesOnly (T.view station.old) (T.view station.new) (IsStill gaz (T.view station.old)) }
+    // A stop at any moment leaves a gazetteer that some outcome had when it began: the one that was there, if all had one.
+    ensures moments { IsTrue (T.view station.old).is_told → LeavesOnly (T.view station.old) (T.view station.new) (IsFound (T.view station.old)) }
     ensures printed { IsTrue (T.view station.old).is_told → (T.view station.new).printed ≡ (T.view station.old).printed }
 
     // It says that there is no mirror only where the areas have no gazetteer, and which of the log and Root is to blame.

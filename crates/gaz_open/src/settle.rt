@@ -2,10 +2,9 @@
 ghost use Rattle.std.specs.Prelude.{◌≡◌, ◌≤◌, ◌+◌, ◌*◌, ℕ, true, false, IsTrue, IfOk, OnOk};
 ghost use Rattle.gaz_outside.specs.Outside.{HasCause};
 ghost use Rattle.gaz_outside.specs.Station.{Confined, Counts, LeavesOnly};
-ghost use Rattle.gaz_plain.specs.Gazetteer.{Gazetteer};
 ghost use Rattle.gaz_redo.specs.Slots.{SameBytes};
 ghost use Rattle.gaz_redo.specs.Recovered.{AllStable, OnlyRise, SlotsToRedo};
-ghost use Rattle.gaz_open.specs.Holds.{AllHold, IsStill};
+ghost use Rattle.gaz_open.specs.Holds.{IsFound};
 ghost use Rattle.gaz_open.specs.Opens.{HasLog, HasNoLog, IsSettled, NothingToRedo};
 
 use gaz_outside::{Area, Failed, Station};
@@ -27,13 +26,12 @@ fn sync_all<T: Station>(station: &mut T) -> Result<(), Failed>
 }
 
 /// Syncs the areas and recovers from a stop. `false` says that the gate is open over a log that isn't in form.
-/// At every moment the gazetteer stands, and nothing is printed.
+/// At every moment some outcome of the beginning stands, and nothing is printed.
 pub(crate) fn settle<T: Station>(station: &mut T) -> Result<bool, Failed>
     ensures settled { IfOk result (λ ok. IsTrue (T.view station.old).is_told → ok ≡ true → IsSettled (T.view station.old) (T.view station.new)) }
     ensures log { IfOk result (λ ok. IsTrue (T.view station.old).is_told → ok ≡ true → HasLog (T.view station.old).bytes) }
     ensures no_log { IfOk result (λ ok. IsTrue (T.view station.old).is_told → ok ≡ false → HasNoLog (T.view station.old).bytes) }
-    ensures moments { IsTrue (T.view station.old).is_told → (gaz : Gazetteer) → AllHold (T.view station.old) gaz
-        → LeavesOnly (T.view station.old) (T.view station.new) (IsStill gaz (T.view station.old)) }
+    ensures moments { IsTrue (T.view station.old).is_told → LeavesOnly (T.view station.old) (T.view station.new) (IsFound (T.view station.old)) }
     ensures printed { IsTrue (T.view station.old).is_told → (T.view station.new).printed ≡ (T.view station.old).printed }
     ensures reads { IsTrue (T.view station.old).is_told → (slots : ℕ) → SlotsToRedo (T.view station.old) slots → (T.view station.new).reads ≤ (T.view station.old).reads + 8 * (slots + 1) }
     ensures writes { IsTrue (T.view station.old).is_told → (slots : ℕ) → SlotsToRedo (T.view station.old) slots → (T.view station.new).writes ≤ (T.view station.old).writes + slots + 1 }

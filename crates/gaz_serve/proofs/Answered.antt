@@ -5,17 +5,19 @@ use Rattle.std.specs.Io.KnownBytes.{append_known}
 use Rattle.std.proofs.lemmas.List.Sums.{sum_by-cons}
 use Rattle.std.proofs.lemmas.Bool.{false≢true}
 use Rattle.std.proofs.lemmas.List.{append-nil}
+use Rattle.std.proofs.Transfers.{drop-appended}
 use Rattle.gaz_outside.specs.Outside.{StationView, HasRisen, RisesOnce, printed_of}
 use Rattle.gaz_outside.specs.Station.{Confined, LeavesOnly}
-use Rattle.gaz_plain.specs.Gazetteer.{Gazetteer}
+use Rattle.gaz_outside.proofs.Runs.{goes_far, leaves_weaker}
 use Rattle.gaz_plain.specs.Load.{Files}
 use Rattle.gaz_redo.specs.Slots.{SameBytes}
-use Rattle.gaz_open.specs.Holds.{AllHold, IsStill}
+use Rattle.gaz_open.specs.Holds.{AllHold, IsFound}
 use Rattle.gaz_open.specs.Opens.{NothingToRedo}
-use Rattle.gaz_open.proofs.Opened.{same_nothing}
+use Rattle.gaz_open.proofs.Opened.{same_nothing, found_still}
 use Rattle.gaz_reply.proofs.Pieces.{append_none}
+use Rattle.gaz_reply.proofs.Cuts.{printed_whole}
 use Rattle.gaz_turns.specs.Turns.{State, Turn, Verdict, plain, memory, shelf, is_shelf, shelf_refusals}
-use Rattle.gaz_turns.specs.Head.{Keeps}
+use Rattle.gaz_turns.specs.Head.{HoldsAcked, Keeps, IsFoundOrStop, IsExit}
 use Rattle.gaz_turns.proofs.Told.{same_printed}
 use Rattle.gaz_turns.proofs.Underway.{from_open}
 use Rattle.gaz_serve.specs.Ran.{is_memory, memory_refusals, plain_turn, asked, RisesBy, IsUnwritten, RunAnswers, IsAnswered}
@@ -45,15 +47,19 @@ by_size (suc n) = inr (omega arith)
 no_refusals : (n before now : ℕ) → RisesBy n before now → (HasRisen before now → ⊥) → n ≡ 0
 no_refusals n before now rises still = elim (by_size n) [ inl none ↦ none | inr more ↦ absurd (still (omega (arith, rises, more))) ]
 
-module _ (first : State) (files : Files) (bytes bytes_now : Option (List ℕ)) (source source_now shelf_faults shelf_now : ℕ) (station station_now : StationView) (status : ℕ) where
+module _ (first : State) (files : Files) (bytes bytes_now : Option (List ℕ)) (source source_now shelf_faults shelf_now : ℕ) (station station_now : StationView) (unopened : Type 0) (status : ℕ) where
   -- whether something failed
   abbrev Failed : Type 0
   Failed = HasRisen source source_now ⊎ HasRisen shelf_faults shelf_now ⊎ HasRisen station.faults station_now.faults
 
-  pub answered : RunAnswers first files bytes bytes_now shelf_faults shelf_now station station_now status → (status ≡ 3 → RisesOnce station.faults station_now.faults) → (status ≡ 4 → RisesOnce source source_now) → (status ≡ 0) ⊎ (status ≡ 3) ⊎ (status ≡ 4) ⊎ (status ≡ 5) ⊎ (status ≡ 6) ⊎ (status ≡ 7)
-      → IsAnswered first files bytes bytes_now shelf_faults shelf_now station station_now Failed status
-  answered run three four others = record {
+  pub answered : (run : RunAnswers first files bytes bytes_now shelf_faults shelf_now station station_now status)
+      → (IsTrue station.is_told → LeavesOnly station station_now (IsFoundOrStop (record { first = first; files = files; turns = run.turns }) station))
+      → (unopened ⊎ (IsTrue station.is_told → IsExit (record { first = first; files = files; turns = run.turns }) station_now run.text status)) → (status ≡ 3 → RisesOnce station.faults station_now.faults) → (status ≡ 4 → RisesOnce source source_now) → (status ≡ 0) ⊎ (status ≡ 3) ⊎ (status ≡ 4) ⊎ (status ≡ 5) ⊎ (status ≡ 6) ⊎ (status ≡ 7)
+      → IsAnswered first files bytes bytes_now shelf_faults shelf_now station station_now Failed unopened status
+  answered run stops exit three four others = record {
     run = run;
+    stops = stops;
+    exit = exit;
     complete = λ quiet not_starved is_mirror no_memory within. by_status quiet not_starved is_mirror no_memory within others;
   }
     where
@@ -116,12 +122,12 @@ run_unopened first files bytes faults entry exit status fits why printed keeps u
 pub record IsOpening (entry mid : StationView) : Type 0 where
   pub told : mid.is_told ≡ entry.is_told
   pub printed : IsTrue entry.is_told → mid.printed ≡ entry.printed
-  pub moments : IsTrue entry.is_told → (first : Gazetteer) → AllHold entry first → LeavesOnly entry mid (IsStill first entry)
+  pub moments : IsTrue entry.is_told → LeavesOnly entry mid (IsFound entry)
   pub untouched : IsTrue entry.is_told → NothingToRedo entry.bytes → Confined SameBytes entry mid
   pub unwritten : IsTrue entry.is_told → NothingToRedo entry.bytes → mid.writes ≡ entry.writes
 
 -- a run that begins with an opening
-pub run_opened : (first : State) (files : Files) (bytes bytes_now : Option (List ℕ)) (faults faults_now : ℕ) (entry mid exit : StationView) (status : ℕ) → IsOpening entry mid → (IsTrue entry.is_told → AllHold mid first.gaz)
+abbrev pub run_opened : (first : State) (files : Files) (bytes bytes_now : Option (List ℕ)) (faults faults_now : ℕ) (entry mid exit : StationView) (status : ℕ) → IsOpening entry mid → (IsTrue entry.is_told → AllHold mid first.gaz)
     → RunAnswers first files bytes bytes_now faults faults_now mid exit status → RunAnswers first files bytes bytes_now faults faults_now entry exit status
 run_opened first files bytes bytes_now faults faults_now entry mid exit status opened holds run =
     let still : IsTrue entry.is_told → IsTrue mid.is_told = λ told. subst (λ (b : Bool). IsTrue b) (sym opened.told) told in
@@ -136,7 +142,7 @@ run_opened first files bytes bytes_now faults faults_now entry mid exit status o
       text_is = run.text_is ∙ ap (λ known. append_known known run.text) (same_printed entry mid opened.told opened.printed);
       whole = run.whole;
       cut = run.cut;
-      keeps = λ told all. from_open files first.gaz entry mid exit run.turns status (opened.moments told first.gaz all) (opened.printed told) (run.keeps (still told) (holds told));
+      keeps = λ told all. from_open files first.gaz entry mid exit run.turns status (leaves_weaker entry mid _ _ (λ c found. found_still entry first.gaz c all found) (opened.moments told)) (opened.printed told) (run.keeps (still told) (holds told));
       unwritten = λ told nothing none.
           let same = opened.untouched told nothing in
           let rest = run.unwritten (still told) (same_nothing entry mid same nothing) none in
@@ -147,6 +153,29 @@ run_opened first files bytes bytes_now faults faults_now entry mid exit status o
       heard_before = run.heard_before;
       unanswering = run.unanswering;
     }
+
+-- what a run that begins with an opening leaves, whatever was pending before: all outcomes had one gazetteer when it was open
+module _ (first : State) (files : Files) (bytes bytes_now : Option (List ℕ)) (faults faults_now : ℕ) (entry mid exit : StationView) (status : ℕ) (opening : IsOpening entry mid) (holds : IsTrue entry.is_told → AllHold mid first.gaz)
+    (run : RunAnswers first files bytes bytes_now faults faults_now mid exit status)
+  where
+    kept : IsTrue entry.is_told → Keeps (record { first = first; files = files; turns = run.turns }) mid exit status
+    kept told = run.keeps (subst (λ (b : Bool). IsTrue b) (sym opening.told) told) (holds told)
+
+    pub stops_opened : IsTrue entry.is_told → LeavesOnly entry exit (IsFoundOrStop (record { first = first; files = files; turns = run.turns }) entry)
+    stops_opened told =
+        goes_far entry mid exit _ _ (leaves_weaker entry mid _ _ (λ c found. inl found) (opening.moments told)) (kept told).stops
+        (λ c stop. inr (record { text = stop.text; printed = stop.printed ∙ ap (λ (l : List ℕ). l ++ stop.text) (opening.printed told); front = stop.front; holds = stop.holds }))
+
+    pub exit_opened : exit.is_told ≡ mid.is_told → IsTrue entry.is_told → IsExit (record { first = first; files = files; turns = run.turns }) exit run.text status
+    exit_opened same told =
+        let keeps = kept told in
+        let here = subst (λ (b : Bool). IsTrue b) (sym opening.told) told in
+        let whole = printed_whole run.text mid exit here same run.text_is in
+        let texts : keeps.text ≡ run.text = sym (drop-appended mid.printed exit.printed keeps.text keeps.printed) ∙ drop-appended mid.printed exit.printed run.text whole in
+        record {
+          ended = keeps.ended;
+          cut = λ is c leaves. subst (λ (text : List ℕ). HoldsAcked (record { first = first; files = files; turns = run.turns }) text c.areas) texts (keeps.cut is c leaves);
+        }
 
 -- the statuses of a run, and those of an opening that failed
 pub with_unopened : (status : ℕ) → (status ≡ 0) ⊎ (status ≡ 3) ⊎ (status ≡ 4) ⊎ (status ≡ 7) → (status ≡ 0) ⊎ (status ≡ 3) ⊎ (status ≡ 4) ⊎ (status ≡ 5) ⊎ (status ≡ 6) ⊎ (status ≡ 7)

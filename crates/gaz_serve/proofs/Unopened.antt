@@ -2,10 +2,11 @@
 use Rattle.std.proofs.Common.{◌≡◌, ◌≢◌, ◌⊎◌, inl, inr, ◌^◌, ◌<◌, ◌≤◌, ℕ, Bool, IsTrue, arith, refl, sym, subst, None}
 use Rattle.gaz_outside.specs.Outside.{SourceView, ShelfView, StationView, RisesOnce, left_of}
 use Rattle.gaz_outside.specs.Station.{Outcome, Leaves}
-use Rattle.gaz_outside.proofs.Runs.{begins, confined_start}
+use Rattle.gaz_outside.proofs.Runs.{begins, confined_start, leaves_weaker}
+use Rattle.gaz_open.proofs.Opened.{found_still}
 use Rattle.gaz_redo.specs.Slots.{SameBytes}
 use Rattle.gaz_open.specs.Content.{mirror_in}
-use Rattle.gaz_open.specs.Holds.{IsStill}
+use Rattle.gaz_open.specs.Holds.{IsFound}
 use Rattle.gaz_turns.proofs.Told.{same_printed}
 use Rattle.gaz_turns.proofs.Underway.{ends_early}
 use Rattle.gaz_serve.specs.Ran.{state_in, IsUnopened, ServeRan}
@@ -18,7 +19,7 @@ pub opens_nothing : (v : StationView) → ((c : Outcome) → IsTrue v.is_told �
 opens_nothing v only = record {
   told = refl;
   printed = λ told. refl;
-  moments = λ told first holds. begins v (IsStill first v) (λ c left. let now = only c told left in (holds c now, now.text));
+  moments = λ told. begins v (IsFound v) (λ c left. let now = only c told left in (c, now, refl, now.text));
   untouched = λ told nothing. confined_start SameBytes (λ a d. refl) v (λ c left. only c told left);
   unwritten = λ told nothing. refl;
 }
@@ -47,11 +48,11 @@ module _ {S F T : Type 0} (source : S → SourceView) (shelf : F → ShelfView) 
         first = first;
         first_is = λ told. refl;
         answers = always _ (λ files.
-            answered first files (left_of (source s)) (left_of (source s)) (source s).faults (source s).faults (shelf f).faults (shelf f).faults (station old) (station new) status
+            answered first files (left_of (source s)) (left_of (source s)) (source s).faults (source s).faults (shelf f).faults (shelf f).faults (station old) (station new) (IsUnopened s s f f (station old) (station new) status) status
             (run_unopened first files (left_of (source s)) (shelf f).faults (station old) (station new) status fits why printed
-            (λ told holds. ends_early files first.gaz (station old) (station new) status (opening.moments told first.gaz holds) (opening.printed told) (λ t c le leaves. counts t c (still told) le leaves))
+            (λ told holds. ends_early files first.gaz (station old) (station new) status (leaves_weaker (station old) (station new) _ _ (λ c found. found_still (station old) first.gaz c holds found) (opening.moments told)) (opening.printed told) (λ t c le leaves. counts t c (still told) le leaves))
             (λ told nothing. record { bytes = (opening.untouched told nothing).bytes; writes = opening.unwritten told nothing }))
-            failed (λ is. no_status status 4 why (inr refl) is) (of_all status why));
+            (λ told. leaves_weaker (station old) (station new) _ _ (λ c found. inl found) (opening.moments told)) (inl unopened) failed (λ is. no_status status 4 why (inr refl) is) (of_all status why));
         none = none;
         undefined = λ told is. unopened;
         unopened = λ is. unopened;

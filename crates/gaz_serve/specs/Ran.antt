@@ -3,13 +3,14 @@ use Rattle.std.specs.Prelude.{◌≡◌, ◌≢◌, ◌≤◌, ℕ, length, ◌+
 use Rattle.std.specs.Io.KnownBytes.{append_known}
 use Rattle.gaz_outside.specs.declared.station.Area.{Area}
 use Rattle.gaz_outside.specs.Outside.{SourceView, ShelfView, StationView, SameFiles, HasRisen, RisesOnce, SameNumbers, IsPrefix, left_of, files_of, printed_of}
+use Rattle.gaz_outside.specs.Station.{LeavesOnly}
 use Rattle.gaz_plain.specs.Gazetteer.{empty}
 use Rattle.gaz_plain.specs.Load.{Files}
 use Rattle.gaz_open.specs.Content.{mirror_in}
 use Rattle.gaz_open.specs.Holds.{AllHold}
 use Rattle.gaz_open.specs.Opens.{NothingToRedo}
 use Rattle.gaz_turns.specs.Turns.{State, Turn, Verdict, plain, memory, shelf, IsLegal, replies, has_change, shelf_refusals}
-use Rattle.gaz_turns.specs.Head.{Keeps}
+use Rattle.gaz_turns.specs.Head.{Keeps, IsFoundOrStop, IsExit}
 use Rattle.gaz_num.specs.Pieces.{ended_lines}
 use Rattle.gaz_serve.specs.Change.{NoneOpen}
 use Rattle.gaz_serve.specs.Serve.{Given, Taken}
@@ -80,10 +81,13 @@ pub record RunAnswers (first : State) (files : Files) (bytes bytes_now : Option 
   -- With 5 and 6 no line was answered.
   pub unanswering : (status ≡ 5) ⊎ (status ≡ 6) → turns ≡ []
 
--- So the run answered, and where nothing failed, no memory was wanting, the areas are a mirror and the source is within the
--- limit, each of its lines was met as it is defined.
-pub record IsAnswered (first : State) (files : Files) (bytes bytes_now : Option (List ℕ)) (shelf_faults shelf_faults_now : ℕ) (station station_now : StationView) (failed : Type 0) (status : ℕ) : Type 0 where
+-- So the run answered. Whatever was pending at entry, each stop leaves what some outcome of entry had, or is one of the run; and
+-- no mirror opened, or the exit is one of the run. And where nothing failed, no memory was wanting, the areas are a mirror and the
+-- source is within the limit, each of its lines was met as it is defined.
+pub record IsAnswered (first : State) (files : Files) (bytes bytes_now : Option (List ℕ)) (shelf_faults shelf_faults_now : ℕ) (station station_now : StationView) (failed unopened : Type 0) (status : ℕ) : Type 0 where
   pub run : RunAnswers first files bytes bytes_now shelf_faults shelf_faults_now station station_now status
+  pub stops : IsTrue station.is_told → LeavesOnly station station_now (IsFoundOrStop (record { first = first; files = files; turns = run.turns }) station)
+  pub exit : unopened ⊎ (IsTrue station.is_told → IsExit (record { first = first; files = files; turns = run.turns }) station_now run.text status)
   pub complete : (failed → ⊥) → status ≢ 5 → status ≢ 6 → memory_refusals run.turns ≡ 0 → run.given.is_past ≡ false →
       (status ≡ 0) × (run.turns ≡ map plain_turn run.given.lines)
 
@@ -107,6 +111,7 @@ pub record ServeRan {S F T : Type 0} (source : S → SourceView) (shelf : F → 
   pub answers : IfSome (files_of (shelf old_shelf)) (λ files.
       IsAnswered first files (left_of (source old_source)) (left_of (source new_source)) (shelf old_shelf).faults (shelf new_shelf).faults (station old_station) (station new_station)
       (HasRisen (source old_source).faults (source new_source).faults ⊎ HasRisen (shelf old_shelf).faults (shelf new_shelf).faults ⊎ HasRisen (station old_station).faults (station new_station).faults)
+      (IsUnopened old_source new_source old_shelf new_shelf (station old_station) (station new_station) status)
       status)
   -- With 6 the areas are no mirror. Where they are none, none opens.
   pub none : status ≡ 6 → IsTrue (station old_station).is_told → mirror_in (station old_station).bytes ≡ None

@@ -4,11 +4,11 @@ ghost use Rattle.gaz_outside.specs.Outside.{HasCause, SameFiles, files_of};
 ghost use Rattle.gaz_outside.specs.Station.{Confined, LeavesOnly};
 ghost use Rattle.gaz_num.specs.Refusal.{memory};
 ghost use Rattle.gaz_num.specs.declared.words.Table.TheVariants.{Rows};
-ghost use Rattle.gaz_plain.specs.Gazetteer.{Gazetteer, line_with};
+ghost use Rattle.gaz_plain.specs.Gazetteer.{line_with};
 ghost use Rattle.gaz_plain.specs.Load.{load, day, load_files, in_sequence};
 ghost use Rattle.gaz_redo.specs.Slots.{SameBytes};
 ghost use Rattle.gaz_open.specs.Content.{mirror_in};
-ghost use Rattle.gaz_open.specs.Holds.{AllHold, IsStill};
+ghost use Rattle.gaz_open.specs.Holds.{AllHold, IsFound};
 ghost use Rattle.gaz_open.specs.Fits.{Fits};
 ghost use Rattle.gaz_open.specs.Opens.{FailsOnce, NothingToRedo};
 ghost use Rattle.gaz_reply.specs.Reply.{refused, rows};
@@ -67,9 +67,8 @@ impl Session {
         ensures fits { IfOk result (λ session. IsTrue (T.view station.old).is_told → Fits session.side (T.view station.new)) }
         ensures holds { IfOk result (λ session. IsTrue (T.view station.old).is_told → AllHold (T.view station.new) session.state.gaz) }
 
-        // A stop at any moment leaves the gazetteer that was there.
-        ensures moments { IsTrue (T.view station.old).is_told → (gaz : Gazetteer) → AllHold (T.view station.old) gaz
-            → LeavesOnly (T.view station.old) (T.view station.new) (IsStill gaz (T.view station.old)) }
+        // A stop at any moment leaves a gazetteer that some outcome had when it began: the one that was there, if all had one.
+        ensures moments { IsTrue (T.view station.old).is_told → LeavesOnly (T.view station.old) (T.view station.new) (IsFound (T.view station.old)) }
         ensures printed { IsTrue (T.view station.old).is_told → (T.view station.new).printed ≡ (T.view station.old).printed }
 
         // It says that there is no mirror only where the areas have no gazetteer, and then none opens.

@@ -7,7 +7,7 @@ use Rattle.gaz_plain.specs.Gazetteer.{Gazetteer}
 use Rattle.gaz_plain.specs.Load.{Files}
 use Rattle.gaz_reply.specs.Reply.{acks}
 use Rattle.gaz_open.specs.Content.{mirror_in}
-use Rattle.gaz_open.specs.Holds.{AllHold}
+use Rattle.gaz_open.specs.Holds.{AllHold, IsFound}
 use Rattle.gaz_turns.specs.Turns.{State, Turn, replies, after, state_after}
 
 -- the line has such a byte
@@ -64,5 +64,14 @@ pub record Keeps (course : Course) (entry exit : StationView) (status : ℕ) : T
   pub front : IsFront text (replies_of course)
   pub whole : status ≢ 3 → text ≡ replies_of course
   -- for each outcome of the moment of exit
+  pub ended : status ≢ 3 → AllHold exit (last_of course)
+  pub cut : status ≡ 3 → (c : Outcome) → Leaves exit c → HoldsAcked course text c.areas
+
+-- What a stop leaves, whatever was pending at entry: what some outcome of entry had, with nothing more printed, or a stop of the run.
+abbrev pub IsFoundOrStop : Course → StationView → Outcome → Type 0
+IsFoundOrStop course entry c = IsFound entry c ⊎ IsStop course entry c
+
+-- What the exit leaves, behind this text: the last gazetteer, and with status 3 one that has what the text acknowledges.
+pub record IsExit (course : Course) (exit : StationView) (text : List ℕ) (status : ℕ) : Type 0 where
   pub ended : status ≢ 3 → AllHold exit (last_of course)
   pub cut : status ≡ 3 → (c : Outcome) → Leaves exit c → HoldsAcked course text c.areas

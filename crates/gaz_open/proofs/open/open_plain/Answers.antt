@@ -14,24 +14,24 @@ pub returns-in-Ok-false-clause-none : goal.returns-in-Ok-false-clause-none
 returns-in-Ok-false-clause-none g c told place is = no_log_no_gaz (g.T.Station.view c.args.station.now).bytes (c.in-Ok-false.ensures.no_log told c.in-Ok-false.field-0-test)
 
 pub returns-in-Ok-clause-moments : goal.returns-in-Ok-clause-moments
-returns-in-Ok-clause-moments g c told gaz holds =
+returns-in-Ok-clause-moments g c told =
     let v0 = g.T.Station.view c.args.station.now in
     let v1 = g.T.Station.view c.settle.new.station in
     let v2 = g.T.Station.view c.read_mirror.new.station in
     let told1 = still v0.is_told v1.is_told c.settle.ensures.counts.told told in
     let settled = c.in-Ok-true.ensures.settled told c.in-Ok-true.field-0-test in
     let run = c.read_mirror.ensures.stays told1 in
-    while_read v0 v1 v2 settled run gaz (λ a. g.met.T.Station.may_stay c.args.station.now a told) holds (c.settle.ensures.printed told) (c.settle.ensures.moments told gaz holds)
+    while_read v0 v1 v2 settled run (λ a. g.met.T.Station.may_stay c.args.station.now a told) (c.settle.ensures.printed told) (c.settle.ensures.moments told)
 
 pub returns-in-Err-read_mirror-clause-moments : goal.returns-in-Err-read_mirror-clause-moments
-returns-in-Err-read_mirror-clause-moments g c told gaz holds =
+returns-in-Err-read_mirror-clause-moments g c told =
     let v0 = g.T.Station.view c.args.station.now in
     let v1 = g.T.Station.view c.settle.new.station in
     let v2 = g.T.Station.view c.read_mirror.new.station in
     let told1 = still v0.is_told v1.is_told c.settle.ensures.counts.told told in
     let settled = c.in-Ok-true.ensures.settled told c.in-Ok-true.field-0-test in
     let run = c.read_mirror.ensures.stays told1 in
-    while_read v0 v1 v2 settled run gaz (λ a. g.met.T.Station.may_stay c.args.station.now a told) holds (c.settle.ensures.printed told) (c.settle.ensures.moments told gaz holds)
+    while_read v0 v1 v2 settled run (λ a. g.met.T.Station.may_stay c.args.station.now a told) (c.settle.ensures.printed told) (c.settle.ensures.moments told)
 
 pub returns-in-Ok-clause-opened : goal.returns-in-Ok-clause-opened
 returns-in-Ok-clause-opened g c told =

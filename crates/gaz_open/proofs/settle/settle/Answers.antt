@@ -6,40 +6,40 @@ use Rattle.gaz_open.proofs.Opened.{while_synced, while_recovered, settled_redone
 use Rattle.gaz_open.proofs.settle.settle.Goals as goal
 
 pub returns-in_err-sync_all-clause-moments : goal.returns-in_err-sync_all-clause-moments
-returns-in_err-sync_all-clause-moments g c told gaz holds =
-    while_synced (g.T.Station.view c.args.station.now) (g.T.Station.view c.sync_all.new.station) (c.sync_all.ensures.stays told) gaz holds
+returns-in_err-sync_all-clause-moments g c told =
+    while_synced (g.T.Station.view c.args.station.now) (g.T.Station.view c.sync_all.new.station) (c.sync_all.ensures.stays told)
 
 pub returns-in-Err-Failed-clause-moments : goal.returns-in-Err-Failed-clause-moments
-returns-in-Err-Failed-clause-moments g c told gaz holds =
+returns-in-Err-Failed-clause-moments g c told =
     let v0 = g.T.Station.view c.args.station.now in
     let v1 = g.T.Station.view c.sync_all.new.station in
     let v2 = g.T.Station.view c.recover.new.station in
     let told1 = still v0.is_told v1.is_told c.sync_all.ensures.counts.told told in
-    while_recovered v0 v1 (c.sync_all.ensures.stays told) v2 gaz (λ a. g.met.T.Station.may_stay c.args.station.now a told) holds (c.recover.ensures.any_moment told1)
+    while_recovered v0 v1 (c.sync_all.ensures.stays told) v2 (λ a. g.met.T.Station.may_stay c.args.station.now a told) (c.recover.ensures.any_moment told1)
 
 pub returns-in-Clean-clause-moments : goal.returns-in-Clean-clause-moments
-returns-in-Clean-clause-moments g c told gaz holds =
+returns-in-Clean-clause-moments g c told =
     let v0 = g.T.Station.view c.args.station.now in
     let v1 = g.T.Station.view c.sync_all.new.station in
     let v2 = g.T.Station.view c.recover.new.station in
     let told1 = still v0.is_told v1.is_told c.sync_all.ensures.counts.told told in
-    while_recovered v0 v1 (c.sync_all.ensures.stays told) v2 gaz (λ a. g.met.T.Station.may_stay c.args.station.now a told) holds (c.recover.ensures.any_moment told1)
+    while_recovered v0 v1 (c.sync_all.ensures.stays told) v2 (λ a. g.met.T.Station.may_stay c.args.station.now a told) (c.recover.ensures.any_moment told1)
 
 pub returns-in-Redone-clause-moments : goal.returns-in-Redone-clause-moments
-returns-in-Redone-clause-moments g c told gaz holds =
+returns-in-Redone-clause-moments g c told =
     let v0 = g.T.Station.view c.args.station.now in
     let v1 = g.T.Station.view c.sync_all.new.station in
     let v2 = g.T.Station.view c.recover.new.station in
     let told1 = still v0.is_told v1.is_told c.sync_all.ensures.counts.told told in
-    while_recovered v0 v1 (c.sync_all.ensures.stays told) v2 gaz (λ a. g.met.T.Station.may_stay c.args.station.now a told) holds (c.recover.ensures.any_moment told1)
+    while_recovered v0 v1 (c.sync_all.ensures.stays told) v2 (λ a. g.met.T.Station.may_stay c.args.station.now a told) (c.recover.ensures.any_moment told1)
 
 pub returns-in-NotALog-clause-moments : goal.returns-in-NotALog-clause-moments
-returns-in-NotALog-clause-moments g c told gaz holds =
+returns-in-NotALog-clause-moments g c told =
     let v0 = g.T.Station.view c.args.station.now in
     let v1 = g.T.Station.view c.sync_all.new.station in
     let v2 = g.T.Station.view c.recover.new.station in
     let told1 = still v0.is_told v1.is_told c.sync_all.ensures.counts.told told in
-    while_recovered v0 v1 (c.sync_all.ensures.stays told) v2 gaz (λ a. g.met.T.Station.may_stay c.args.station.now a told) holds (c.recover.ensures.any_moment told1)
+    while_recovered v0 v1 (c.sync_all.ensures.stays told) v2 (λ a. g.met.T.Station.may_stay c.args.station.now a told) (c.recover.ensures.any_moment told1)
 
 pub returns-in-Redone-clause-settled : goal.returns-in-Redone-clause-settled
 returns-in-Redone-clause-settled g c told is_true =

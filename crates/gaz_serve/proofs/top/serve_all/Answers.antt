@@ -2,8 +2,9 @@ use Rattle.std.proofs.Common.{◌≡◌, ℕ, refl, ap, sym, subst, arith, inl, 
 use Rattle.std.specs.Prelude.{unwrap_or}
 use Rattle.gaz_outside.specs.Outside.{RisesOnce, left_of}
 use Rattle.gaz_plain.specs.Gazetteer.{Gazetteer, empty}
+use Rattle.gaz_serve.specs.Ran.{IsUnopened}
 use Rattle.gaz_serve.proofs.Changing.{weaker}
-use Rattle.gaz_serve.proofs.Answered.{answered, run_opened, with_unopened, opened_status}
+use Rattle.gaz_serve.proofs.Answered.{IsOpening, answered, run_opened, stops_opened, exit_opened, with_unopened, opened_status}
 use Rattle.gaz_serve.proofs.Unopened.{opens_nothing, ran_unopened}
 use Rattle.gaz_serve.proofs.top.serve_all.Goals as goal
 
@@ -51,13 +52,16 @@ returns-in-Ok-start g c =
     let new = g.T.Station.view c.run.new.station in
     let others = with_unopened c.run.result e.others in
     let faults = c.in-Ok-start.ensures.cause in
+    let opening : IsOpening old mid = record { told = s.told; printed = s.printed; moments = s.moments; untouched = s.untouched; unwritten = s.unwritten } in
     let failed : c.run.result ≡ 3 → RisesOnce old.faults new.faults = λ is. subst (λ (n : ℕ). RisesOnce n new.faults) faults (e.station is) in
     record {
       first = c.in-Ok-start.session.state;
       first_is = λ told. ap (λ (o : Option Gazetteer). record { gaz = unwrap_or o empty }) (sym (c.in-Ok-start.ensures.state told));
       answers = weaker _ (λ files run.
-          answered c.in-Ok-start.session.state files (left_of (g.S.Source.view c.args.requests.now)) (left_of (g.S.Source.view c.run.new.source)) (g.S.Source.view c.args.requests.now).faults (g.S.Source.view c.run.new.source).faults (g.F.Shelf.view c.args.shelf.now).faults (g.F.Shelf.view c.run.new.shelf).faults old new c.run.result
-          (run_opened c.in-Ok-start.session.state files _ _ _ _ old mid new c.run.result (record { told = s.told; printed = s.printed; moments = s.moments; untouched = s.untouched; unwritten = s.unwritten }) c.in-Ok-start.ensures.holds run)
+          answered c.in-Ok-start.session.state files (left_of (g.S.Source.view c.args.requests.now)) (left_of (g.S.Source.view c.run.new.source)) (g.S.Source.view c.args.requests.now).faults (g.S.Source.view c.run.new.source).faults (g.F.Shelf.view c.args.shelf.now).faults (g.F.Shelf.view c.run.new.shelf).faults old new (IsUnopened c.args.requests.now c.run.new.source c.args.shelf.now c.run.new.shelf old new c.run.result) c.run.result
+          (run_opened c.in-Ok-start.session.state files _ _ _ _ old mid new c.run.result opening c.in-Ok-start.ensures.holds run)
+          (stops_opened c.in-Ok-start.session.state files _ _ _ _ old mid new c.run.result opening c.in-Ok-start.ensures.holds run)
+          (inr (exit_opened c.in-Ok-start.session.state files _ _ _ _ old mid new c.run.result opening c.in-Ok-start.ensures.holds run e.told))
           failed e.source others) e.answers;
       none = λ is. opened_status c.run.result e.others (inr is);
       undefined = λ told is. some_none _ _ (c.in-Ok-start.ensures.state told) is;
