@@ -1,6 +1,6 @@
 //! What runs leave in the areas of a station, and what the next runs find there.
 use crate::runs::{
-    AREAS, D4, FILES, TURNS, expect_on, have_same_areas, is_synced, replies_of, requests_of,
+    ADDED, AREAS, FILES, TURNS, expect_on, have_same_areas, is_synced, replies_of, requests_of,
     serve_on,
 };
 use crate::worked::{
@@ -185,11 +185,11 @@ fn changes_stand_in_left_and_right_in_turn_and_outlive_their_runs(
         &["refused sequence 2024-03-02\nok day 2024-03-03\n"],
     )?;
     let third = root_page(3, 120, 0xf1, 3);
-    expect_areas(&rt, alloc, &station, &third, &[A1, X2, D4], changed)?;
+    expect_areas(&rt, alloc, &station, &third, &[A1, X2, ADDED], changed)?;
     let mut after = station.after_stop(0, 255)?;
-    let text = &[A1, "ok 1\n", X2, "ok 1\nok 0\n", D4, "ok 1\n"];
+    let text = &[A1, "ok 1\n", X2, "ok 1\nok 0\n", ADDED, "ok 1\n"];
     expect_on(&rt, alloc, &mut after, FILES, gets, text)?;
-    expect_areas(&rt, alloc, &after, &third, &[A1, X2, D4], changed)
+    expect_areas(&rt, alloc, &after, &third, &[A1, X2, ADDED], changed)
 }
 
 /// A load over a load needn't be of a later date, and its text is shorter than what stood there.

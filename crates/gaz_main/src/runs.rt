@@ -11,14 +11,14 @@ use std::process::Abort;
 use std::test::Fail;
 
 /// A row that the second day adds.
-pub(crate) const D4: &str = "4\tD\t\t\t0\t0\tP\tPPL\tAA\t\t\t\t\t\t4\t\t\t\t2024-02-01\n";
+pub(crate) const ADDED: &str = "4\tD\t\t\t0\t0\tP\tPPL\tAA\t\t\t\t\t\t4\t\t\t\t2024-02-01\n";
 
 /// The files of a load, of the day after it, which changes row 2 and deletes row 3, and of one more day.
 pub(crate) const FILES: &[File<'static>] = &[
     (DUMP, &[A1, B2, C3]),
     (MODIFICATIONS, &[X2]),
     (DELETES, &["3\tC\tgone\n"]),
-    ("modifications-2024-03-03.txt", &[D4]),
+    ("modifications-2024-03-03.txt", &[ADDED]),
     ("deletes-2024-03-03.txt", &[]),
 ];
 
