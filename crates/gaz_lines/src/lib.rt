@@ -7,8 +7,6 @@
 
 mod cutter;
 mod fault;
-#[cfg(test)]
-mod tests;
 mod window;
 
 pub use cutter::LineCutter;

@@ -102,13 +102,3 @@ impl Source for OneByte {
         }
     }
 }
-
-/// A row of id 7 with so many bytes, without an LF.
-pub(crate) fn long_row(alloc: Global, size: usize) -> Result<Vec<u8>, AllocError> {
-    let behind = "\t\t\t0\t0\tP\tPPL\tAA\t\t\t\t\t\t1\t\t\t\t2024-02-01";
-    let mut row = joined(alloc, &["7\t"])?;
-    let name = vec![in alloc; b'n'; size.saturating_sub(2 + behind.len())]?;
-    row.extend_from_slice(&name)?;
-    row.extend_from_slice(behind.as_bytes())?;
-    Ok(row)
-}

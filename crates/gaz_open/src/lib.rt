@@ -12,8 +12,6 @@ mod open;
 mod parse;
 mod settle;
 mod side;
-#[cfg(test)]
-mod tests;
 mod text;
 
 pub use fault::{OpenFault, Place};

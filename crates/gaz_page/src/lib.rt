@@ -12,8 +12,6 @@ mod mem_pages;
 mod page;
 mod pages;
 mod root;
-#[cfg(test)]
-mod tests;
 mod tree_root;
 
 pub use fields::{long_at, number_at, short_at};

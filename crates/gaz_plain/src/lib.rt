@@ -9,8 +9,6 @@ mod delete;
 mod laws;
 mod plain_gaz;
 mod row_list;
-#[cfg(test)]
-mod tests;
 
 pub use delete::check_delete;
 pub use laws::{day_twice, folds_append, keeps_gazetteers, part_is_fold, steps_by_key};

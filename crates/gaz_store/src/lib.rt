@@ -8,8 +8,6 @@ mod fault;
 mod law;
 mod root;
 mod storing;
-#[cfg(test)]
-mod tests;
 mod text;
 mod writer;
 

@@ -7,5 +7,3 @@ mod request;
 
 pub use request::{BadRequest, Request, read_request};
 
-#[cfg(test)]
-mod tests;

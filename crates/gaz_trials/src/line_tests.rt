@@ -2,7 +2,7 @@
 ghost use Rattle.std.specs.Prelude.{◌≤◌, ◌<◌, ◌^◌, false, [], length};
 ghost use Rattle.gaz_lines.specs.Cutter.{IsFresh};
 
-use crate::{LineCutter, LineFault};
+use gaz_lines::{LineCutter, LineFault};
 use gaz_outside::{Failed, MemShelf, MemSource, Shelf, Source};
 use std::alloc::{AllocError, Global};
 use std::test::Fail;

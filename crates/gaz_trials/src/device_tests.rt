@@ -1,5 +1,5 @@
 //! Devices in memory, and what stops leave of them.
-use crate::{Area, Failed, MemStation, Station};
+use gaz_outside::{Area, Failed, MemStation, Station};
 use std::alloc::Global;
 use std::process::Abort;
 use std::test::Fail;

@@ -1,7 +1,7 @@
 use Rattle.std.proofs.Common.{sym, subst, inr}
 use Rattle.std.specs.Prelude.{IsSome}
-use Rattle.gaz_lines.proofs.tests.lines_of_file.Goals as goal
-use Rattle.gaz_lines.proofs.tests.lines_of_file.Goals.{in-Ok-Some-next_shelf+in_ok-extend_from_slice-in-Ok-Some-next_shelf, in-Err-TooLong+in_ok-extend_from_slice-in-Err-TooLong, in-Err-FileTooLong+in_ok-extend_from_slice-in-Err-FileTooLong}
+use Rattle.gaz_trials.proofs.line_tests.lines_of_file.Goals as goal
+use Rattle.gaz_trials.proofs.line_tests.lines_of_file.Goals.{in-Ok-Some-next_shelf+in_ok-extend_from_slice-in-Ok-Some-next_shelf, in-Err-TooLong+in_ok-extend_from_slice-in-Err-TooLong, in-Err-FileTooLong+in_ok-extend_from_slice-in-Err-FileTooLong}
 
 pub loop-preserved : goal.loop-preserved
 loop-preserved g c =

@@ -1,7 +1,7 @@
 //! Shelves read back, in memory and over a folder. A test over a folder removes what it wrote.
 ghost use Rattle.std.specs.Prelude.{◌≤◌, length};
 
-use crate::{DirShelf, Failed, MemShelf, Shelf};
+use gaz_outside::{DirShelf, Failed, MemShelf, Shelf};
 use std::alloc::{AllocError, Global};
 use std::fs;
 use std::process::Abort;
