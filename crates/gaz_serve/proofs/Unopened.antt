@@ -19,7 +19,7 @@ pub opens_nothing : (v : StationView) → ((c : Outcome) → IsTrue v.is_told �
 opens_nothing v only = record {
   told = refl;
   printed = λ told. refl;
-  moments = λ told. begins v (IsFound v) (λ c left. let now = only c told left in (c, now, refl, now.text));
+  moments = λ told. begins v (IsFound v) (λ c left. let now = only c told left in (c, now, λ gaz. (λ m. m, λ m. m), now.text));
   untouched = λ told nothing. confined_start SameBytes (λ a d. refl) v (λ c left. only c told left);
   unwritten = λ told nothing. refl;
 }

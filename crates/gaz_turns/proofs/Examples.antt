@@ -96,5 +96,5 @@ inside_commit v = record {
   text = codes "refused memory\n";
   printed = refl;
   front = (15, omega (arith, ap length whole), ap (λ (t : List ℕ). take 15 t) (sym whole));
-  holds = record { gaz = loaded; content = written_back Left 5 loaded (λ area. []) kept refl; one_of = inr first_change };
+  holds = record { gaz = loaded; content = record { is = written_back Left 5 loaded (λ area. []) kept refl }; one_of = inr first_change };
 }

@@ -10,13 +10,13 @@ use Rattle.gaz_reply.specs.declared.reply.Done.{Done}
 use Rattle.gaz_reply.specs.Reply.{Reply, reply_text, done}
 use Rattle.gaz_reply.proofs.Pieces.{append_none}
 use Rattle.gaz_reply.specs.Tells.{MayBeCut}
-use Rattle.gaz_open.specs.Content.{mirror_in}
+use Rattle.gaz_open.specs.Content.{Mirrors}
 use Rattle.gaz_open.specs.Holds.{AllHold, IsOldOrNext}
 use Rattle.gaz_turns.specs.Turns.{State, Answer, made, same_state}
 use Rattle.gaz_turns.specs.Steps.{IsBeforeOrAfter, IsGiven}
 
 -- Inside the telling, the areas have the gazetteer that all outcomes had when it began, and a front of the reply is printed.
-told_front : (gaz : Gazetteer) (piece : List ℕ) (v : StationView) (c : Outcome) → AllHold v gaz → LeavesFront piece v v c → (mirror_in c.areas ≡ Some gaz) × HasFrontOf piece v.printed c.text
+told_front : (gaz : Gazetteer) (piece : List ℕ) (v : StationView) (c : Outcome) → AllHold v gaz → LeavesFront piece v v c → Mirrors c.areas gaz × HasFrontOf piece v.printed c.text
 told_front gaz piece v c holds front = (holds (record { areas = c.areas; text = v.printed }) (record { areas = front.areas; text = refl }), front.text)
 
 -- where the areas stay, all outcomes have the gazetteer that they had

@@ -11,6 +11,7 @@ use Rattle.gaz_outside.proofs.Runs.{begins, goes_far, leaves_weaker}
 use Rattle.gaz_plain.specs.Gazetteer.{Gazetteer}
 use Rattle.gaz_plain.specs.Load.{Files}
 use Rattle.gaz_reply.specs.Reply.{acks, reply_text, is_change}
+use Rattle.gaz_open.specs.Content.{Mirrors}
 use Rattle.gaz_open.specs.Holds.{AllHold, IsStill}
 use Rattle.gaz_turns.specs.Head.{Course, IsFront, HoldsAcked, IsStop, IsStored, Keeps}
 use Rattle.gaz_turns.specs.Turns.{State, Turn, answer_at, replies, gazetteers, state_after, after}
@@ -37,7 +38,7 @@ as_it_is v = record { areas = v.bytes; text = v.printed }
 pub stored_now : (v : StationView) (gaz : Gazetteer) → ((a : Area) → v.may_leave a (v.bytes a)) → AllHold v gaz → AllByRecursion IsStored gaz.rows
 stored_now v gaz stay holds =
     let now : Leaves v (as_it_is v) = record { areas = stay; text = refl } in
-    read_stored v.bytes gaz (holds (as_it_is v) now)
+    read_stored v.bytes gaz (holds (as_it_is v) now).is
 
 acks_of : (first : State) (files : Files) (turns : List Turn) (state : State) (tally : Tally first files turns state) → acks (replies first files turns) ≡ length tally.earlier
 acks_of first files turns state tally =
@@ -230,7 +231,7 @@ ends_well files first entry now state turns status well run = record {
   printed = run.printed;
   front = front_whole (replies first files turns);
   whole = λ other. refl;
-  ended = λ other c leaves. run.holds c leaves ∙ ap (λ (s : State). Some s.gaz) (sym run.ends);
+  ended = λ other c leaves. subst (λ (s : State). Mirrors c.areas s.gaz) (sym run.ends) (run.holds c leaves);
   cut = λ is. absurd (well is);
 }
 

@@ -6,7 +6,7 @@ use Rattle.gaz_outside.specs.Station.{StationView, Outcome, Leaves, LeavesOnly}
 use Rattle.gaz_plain.specs.Gazetteer.{Gazetteer}
 use Rattle.gaz_plain.specs.Load.{Files}
 use Rattle.gaz_reply.specs.Reply.{acks}
-use Rattle.gaz_open.specs.Content.{mirror_in}
+use Rattle.gaz_open.specs.Content.{Mirrors}
 use Rattle.gaz_open.specs.Holds.{AllHold, IsFound}
 use Rattle.gaz_turns.specs.Turns.{State, Turn, replies, after, state_after}
 
@@ -44,7 +44,7 @@ IsFront text whole = (n : ℕ) × (n ≤ length whole) × (text ≡ take n whole
 -- The areas have the gazetteer after as many accepted changes as the text acknowledges, or after one more where there was one more.
 pub record HoldsAcked (course : Course) (text : List ℕ) (areas : Area → List ℕ) : Type 0 where
   pub gaz : Gazetteer
-  pub content : mirror_in areas ≡ Some gaz
+  pub content : Mirrors areas gaz
   pub one_of : (after_changes (acks text) course ≡ Some gaz) ⊎ (after_changes (suc (acks text)) course ≡ Some gaz)
 
 -- What every stop leaves: behind the text at entry a front of the replies, and a gazetteer that has what this front acknowledges.

@@ -4,7 +4,7 @@ use Rattle.gaz_outside.specs.Outside.{Prints}
 use Rattle.gaz_outside.specs.Station.{StationView, Outcome, LeavesOnly, HasFrontOf, AreasStay}
 use Rattle.gaz_plain.specs.Load.{Files}
 use Rattle.gaz_reply.specs.Reply.{reply_text, is_change}
-use Rattle.gaz_open.specs.Content.{mirror_in}
+use Rattle.gaz_open.specs.Content.{Mirrors}
 use Rattle.gaz_open.specs.Holds.{AllHold}
 use Rattle.gaz_turns.specs.Turns.{State, Turn, Answer, IsLegal, replies}
 use Rattle.gaz_turns.specs.Head.{IsFront, Keeps}
@@ -12,8 +12,8 @@ use Rattle.gaz_turns.specs.Head.{IsFront, Keeps}
 -- The old gazetteer with nothing more printed, or the new one with a front of the reply.
 abbrev pub IsBeforeOrAfter : State → Answer → StationView → Outcome → Type 0
 IsBeforeOrAfter state answer v c =
-    ((mirror_in c.areas ≡ Some state.gaz) × (c.text ≡ v.printed))
-    ⊎ ((mirror_in c.areas ≡ Some answer.state.gaz) × HasFrontOf (reply_text answer.reply) v.printed c.text)
+    (Mirrors c.areas state.gaz × (c.text ≡ v.printed))
+    ⊎ (Mirrors c.areas answer.state.gaz × HasFrontOf (reply_text answer.reply) v.printed c.text)
 
 -- An answer is given: its change, if it tells one, is committed before a byte of the reply is printed. The whole reply is
 -- printed, or a front of it where the station failed.
