@@ -1,5 +1,5 @@
 -- A run of the program keeps what it finds.
-use Rattle.std.proofs.Common.{◌≡◌, ◌≢◌, ◌⊎◌, ℕ, IsTrue, List, [], ◌∷◌, ◌++◌, take, length, length-append, sym, ap, arith, subst, ◌∙◌, Option, Some, inl, inr}
+use Rattle.std.proofs.Common.{◌≡◌, ◌≢◌, ◌⊎◌, ℕ, IsTrue, List, [], ◌∷◌, ◌++◌, take, length, length-append, refl, sym, ap, arith, subst, ◌∙◌, Option, Some, inl, inr}
 use Rattle.std.proofs.Transfers.{drop-appended}
 use Rattle.std.proofs.Math.Seq.{take-append_seam}
 use Rattle.std.proofs.lemmas.Bool.{cases_eq}
@@ -10,14 +10,14 @@ use Rattle.gaz_num.specs.Pieces.{lines_within, is_too_long}
 use Rattle.gaz_plain.specs.Gazetteer.{Gazetteer, empty}
 use Rattle.gaz_plain.specs.Load.{Files}
 use Rattle.gaz_open.specs.Holds.{AllHold}
-use Rattle.gaz_open.proofs.Opened.{holds_now}
+use Rattle.gaz_open.specs.Content.{Mirrors}
 use Rattle.gaz_reply.specs.Reply.{reply_text}
 use Rattle.gaz_reply.proofs.Cuts.{printed_whole}
 use Rattle.gaz_turns.specs.Turns.{State, Turn, replies, answer_at, state_after}
 use Rattle.gaz_turns.specs.Head.{IsFront}
 use Rattle.gaz_turns.specs.Steps.{RunKeeps}
 use Rattle.gaz_turns.proofs.Tallies.{replies_more}
-use Rattle.gaz_serve.specs.Ran.{state_in, RunAnswers}
+use Rattle.gaz_serve.specs.Ran.{RunAnswers}
 
 front_of : (front text : List ℕ) → IsPrefix front text → IsFront front text
 front_of front text prefix =
@@ -47,6 +47,6 @@ module _ (first : State) (files : Files) (bytes bytes_now : Option (List ℕ)) (
         cut_last = λ earlier last is. subst (λ (text : List ℕ). IsFront (replies first files earlier) text) texts (front_of _ _ (all_but_last earlier last is (cases_eq status 3)));
       }
 
--- the state of the areas, where all outcomes have this gazetteer
-pub state_found : (v : StationView) (gaz : Gazetteer) → ((a : Area) → v.may_leave a (v.bytes a)) → AllHold v gaz → state_in v.bytes ≡ record { gaz = gaz }
-state_found v gaz stay holds = ap (λ (o : Option Gazetteer). record { gaz = unwrap_or o empty }) (holds_now v gaz stay holds)
+-- where all outcomes have this gazetteer, the areas as they read have it
+pub mirrors_now : (v : StationView) (gaz : Gazetteer) → ((a : Area) → v.may_leave a (v.bytes a)) → AllHold v gaz → Mirrors v.bytes gaz
+mirrors_now v gaz stay holds = holds (record { areas = v.bytes; text = v.printed }) (record { areas = stay; text = refl })

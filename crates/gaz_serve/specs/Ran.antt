@@ -4,9 +4,9 @@ use Rattle.std.specs.Io.KnownBytes.{append_known}
 use Rattle.gaz_outside.specs.declared.station.Area.{Area}
 use Rattle.gaz_outside.specs.Outside.{SourceView, ShelfView, StationView, SameFiles, HasRisen, RisesOnce, SameNumbers, IsPrefix, left_of, files_of, printed_of}
 use Rattle.gaz_outside.specs.Station.{LeavesOnly}
-use Rattle.gaz_plain.specs.Gazetteer.{empty}
+use Rattle.gaz_plain.specs.Gazetteer.{Gazetteer}
 use Rattle.gaz_plain.specs.Load.{Files}
-use Rattle.gaz_open.specs.Content.{mirror_in}
+use Rattle.gaz_open.specs.Content.{Mirrors}
 use Rattle.gaz_open.specs.Holds.{AllHold}
 use Rattle.gaz_open.specs.Opens.{NothingToRedo}
 use Rattle.gaz_turns.specs.Turns.{State, Turn, Verdict, plain, memory, shelf, IsLegal, replies, has_change, shelf_refusals}
@@ -91,10 +91,6 @@ pub record IsAnswered (first : State) (files : Files) (bytes bytes_now : Option 
   pub complete : (failed → ⊥) → status ≢ 5 → status ≢ 6 → memory_refusals run.turns ≡ 0 → run.given.is_past ≡ false →
       (status ≡ 0) × (run.turns ≡ map plain_turn run.given.lines)
 
--- the state of a mirror with these areas, at first where they are none
-abbrev pub state_in : (Area → List ℕ) → State
-state_in areas = record { gaz = unwrap_or (mirror_in areas) empty }
-
 -- No mirror opened: the station failed, memory was wanting or the areas are no mirror. The source and the shelf weren't called,
 -- and nothing was printed.
 pub record IsUnopened {S F : Type 0} (old_source new_source : S) (old_shelf new_shelf : F) (station station_now : StationView) (status : ℕ) : Type 0 where
@@ -105,17 +101,15 @@ pub record IsUnopened {S F : Type 0} (old_source new_source : S) (old_shelf new_
 
 -- A run of `serve` over a source, a shelf and a station: what it did to them, as their views tell it, and its status.
 pub record ServeRan {S F T : Type 0} (source : S → SourceView) (shelf : F → ShelfView) (station : T → StationView) (old_source new_source : S) (old_shelf new_shelf : F) (old_station new_station : T) (status : ℕ) : Type 0 where
-  -- the state at entry: that of the areas as they read, where bytes are told
-  pub first : State
-  pub first_is : IsTrue (station old_station).is_told → first ≡ state_in (station old_station).bytes
-  pub answers : IfSome (files_of (shelf old_shelf)) (λ files.
+  -- Where bytes are told and the areas as they read mirror a gazetteer, it is the state at entry.
+  pub answers : IsTrue (station old_station).is_told → (first : State) → Mirrors (station old_station).bytes first.gaz → IfSome (files_of (shelf old_shelf)) (λ files.
       IsAnswered first files (left_of (source old_source)) (left_of (source new_source)) (shelf old_shelf).faults (shelf new_shelf).faults (station old_station) (station new_station)
       (HasRisen (source old_source).faults (source new_source).faults ⊎ HasRisen (shelf old_shelf).faults (shelf new_shelf).faults ⊎ HasRisen (station old_station).faults (station new_station).faults)
       (IsUnopened old_source new_source old_shelf new_shelf (station old_station) (station new_station) status)
       status)
   -- With 6 the areas are no mirror. Where they are none, none opens.
-  pub none : status ≡ 6 → IsTrue (station old_station).is_told → mirror_in (station old_station).bytes ≡ None
-  pub undefined : IsTrue (station old_station).is_told → mirror_in (station old_station).bytes ≡ None → IsUnopened old_source new_source old_shelf new_shelf (station old_station) (station new_station) status
+  pub none : status ≡ 6 → IsTrue (station old_station).is_told → (gaz : Gazetteer) → Mirrors (station old_station).bytes gaz → ⊥
+  pub undefined : IsTrue (station old_station).is_told → ((gaz : Gazetteer) → Mirrors (station old_station).bytes gaz → ⊥) → IsUnopened old_source new_source old_shelf new_shelf (station old_station) (station new_station) status
   pub unopened : (status ≡ 5) ⊎ (status ≡ 6) → IsUnopened old_source new_source old_shelf new_shelf (station old_station) (station new_station) status
   -- With 0 nothing is left.
   pub emptied : status ≡ 0 → IfSome (left_of (source new_source)) (λ bytes. bytes ≡ [])
