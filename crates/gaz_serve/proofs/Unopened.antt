@@ -52,7 +52,6 @@ module _ {S F T : Type 0} (source : S → SourceView) (shelf : F → ShelfView) 
             (λ told nothing. record { bytes = (opening.untouched told nothing).bytes; writes = opening.unwritten told nothing }))
             (λ told. leaves_weaker (station old) (station new) _ _ (λ c found. inl found) (opening.moments told)) (inl unopened) failed (λ is. no_status status 4 why (inr refl) is) (of_all status why));
         none = none;
-        undefined = λ told is. unopened;
         unopened = λ is. unopened;
         emptied = λ is. no_status status 0 why (inl (omega arith)) is;
         taken = taken_nothing 65536 (left_of (source s));

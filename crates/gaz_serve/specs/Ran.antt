@@ -107,9 +107,8 @@ pub record ServeRan {S F T : Type 0} (source : S → SourceView) (shelf : F → 
       (HasRisen (source old_source).faults (source new_source).faults ⊎ HasRisen (shelf old_shelf).faults (shelf new_shelf).faults ⊎ HasRisen (station old_station).faults (station new_station).faults)
       (IsUnopened old_source new_source old_shelf new_shelf (station old_station) (station new_station) status)
       status)
-  -- With 6 the areas are no mirror. Where they are none, none opens.
+  -- With 6 the areas are no mirror.
   pub none : status ≡ 6 → IsTrue (station old_station).is_told → (gaz : Gazetteer) → Mirrors (station old_station).bytes gaz → ⊥
-  pub undefined : IsTrue (station old_station).is_told → ((gaz : Gazetteer) → Mirrors (station old_station).bytes gaz → ⊥) → IsUnopened old_source new_source old_shelf new_shelf (station old_station) (station new_station) status
   pub unopened : (status ≡ 5) ⊎ (status ≡ 6) → IsUnopened old_source new_source old_shelf new_shelf (station old_station) (station new_station) status
   -- With 0 nothing is left.
   pub emptied : status ≡ 0 → IfSome (left_of (source new_source)) (λ bytes. bytes ≡ [])

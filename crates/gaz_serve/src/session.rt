@@ -1,13 +1,13 @@
 //! A session: the gazetteer of an open mirror, the side of its text, and the buffer by which files are read.
-ghost use Rattle.std.specs.Prelude.{◌≡◌, ◌⊎◌, ◌∷◌, [], Ok, None, IsTrue, IfOk, IfErr, IfSome, IsErr, IsSome, OnOk, option_to_list};
+ghost use Rattle.std.specs.Prelude.{◌≡◌, ◌⊎◌, ◌∷◌, [], Ok, None, IsTrue, IfOk, IfErr, IfSome, IsSome, OnOk, option_to_list};
 ghost use Rattle.gaz_outside.specs.Outside.{HasCause, SameFiles, files_of};
 ghost use Rattle.gaz_outside.specs.Station.{Confined, LeavesOnly};
 ghost use Rattle.gaz_num.specs.Refusal.{memory};
 ghost use Rattle.gaz_num.specs.declared.words.Table.TheVariants.{Rows};
-ghost use Rattle.gaz_plain.specs.Gazetteer.{line_with};
+ghost use Rattle.gaz_plain.specs.Gazetteer.{Gazetteer, line_with};
 ghost use Rattle.gaz_plain.specs.Load.{load, day, load_files, in_sequence};
 ghost use Rattle.gaz_redo.specs.Slots.{SameBytes};
-ghost use Rattle.gaz_open.specs.Content.{mirror_in};
+ghost use Rattle.gaz_open.specs.Content.{Mirrors};
 ghost use Rattle.gaz_open.specs.Holds.{AllHold, IsFound};
 ghost use Rattle.gaz_open.specs.Fits.{Fits};
 ghost use Rattle.gaz_open.specs.Opens.{FailsOnce, NothingToRedo};
@@ -63,7 +63,7 @@ impl Session {
     /// nothing.
     pub fn start<T: Station>(alloc: Global, station: &mut T) -> Result<Session, OpenFault>
         // The session stands for the gazetteer of the areas. The gate is closed then, and Root says where the text is.
-        ensures state { IfOk result (λ session. IsTrue (T.view station.old).is_told → mirror_in (T.view station.old).bytes ≡ Some session.state.gaz) }
+        ensures state { IfOk result (λ session. IsTrue (T.view station.old).is_told → Mirrors (T.view station.old).bytes session.state.gaz) }
         ensures fits { IfOk result (λ session. IsTrue (T.view station.old).is_told → Fits session.side (T.view station.new)) }
         ensures holds { IfOk result (λ session. IsTrue (T.view station.old).is_told → AllHold (T.view station.new) session.state.gaz) }
 
@@ -71,9 +71,8 @@ impl Session {
         ensures moments { IsTrue (T.view station.old).is_told → LeavesOnly (T.view station.old) (T.view station.new) (IsFound (T.view station.old)) }
         ensures printed { IsTrue (T.view station.old).is_told → (T.view station.new).printed ≡ (T.view station.old).printed }
 
-        // It says that there is no mirror only where the areas have no gazetteer, and then none opens.
-        ensures none { IfErr result (λ why. IsTrue (T.view station.old).is_told → (place : _) → why ≡ OpenFault.NotAMirror place → mirror_in (T.view station.old).bytes ≡ None) }
-        ensures undefined { IsTrue (T.view station.old).is_told → mirror_in (T.view station.old).bytes ≡ None → IsErr result }
+        // It says that there is no mirror only where the areas have no gazetteer.
+        ensures none { IfErr result (λ why. IsTrue (T.view station.old).is_told → (place : _) → why ≡ OpenFault.NotAMirror place → (gaz : Gazetteer) → Mirrors (T.view station.old).bytes gaz → ⊥) }
 
         // Where nothing is to be redone, nothing is written.
         ensures untouched { IsTrue (T.view station.old).is_told → NothingToRedo (T.view station.old).bytes → Confined SameBytes (T.view station.old) (T.view station.new) }

@@ -3,17 +3,13 @@ use Rattle.std.specs.Prelude.{◌⊎◌, IfSome, List, unwrap_or}
 use Rattle.gaz_outside.specs.Outside.{RisesOnce, HasRisen, left_of, files_of}
 use Rattle.gaz_plain.specs.Gazetteer.{Gazetteer, empty}
 use Rattle.gaz_outside.specs.declared.station.Area.{Area}
-use Rattle.gaz_open.specs.Content.{mirror_in, Mirrors}
+use Rattle.gaz_open.specs.Content.{Mirrors}
 use Rattle.gaz_turns.specs.Turns.{State}
 use Rattle.gaz_serve.specs.Ran.{IsUnopened, IsAnswered}
 use Rattle.gaz_serve.proofs.Changing.{weaker}
 use Rattle.gaz_serve.proofs.Answered.{IsOpening, answered, run_opened, stops_opened, exit_opened, with_unopened, opened_status}
 use Rattle.gaz_serve.proofs.Unopened.{opens_nothing, ran_unopened}
 use Rattle.gaz_serve.proofs.top.serve_all.Goals as goal
-
-some_none : {A : Type 0} (o : Option Gazetteer) (gaz : Gazetteer) → o ≡ Some gaz → o ≡ None → A
-some_none None gaz some none = absurd (cc)
-some_none (Some x) gaz some none = absurd (cc)
 
 pub returns-in-Err : goal.returns-in-Err
 returns-in-Err g c =
@@ -44,11 +40,11 @@ returns g c =
     ran_unopened g.S.Source.view g.F.Shelf.view g.T.Station.view c.args.requests.now c.args.shelf.now c.args.station.now c.start.new.station 6 (inr (inr refl)) (g.met.F.Shelf.faults_fit c.args.shelf.now)
     (record { told = e.told; printed = e.printed; moments = e.moments; untouched = e.untouched; unwritten = e.unwritten })
     (λ t o told le leaves. g.met.T.Station.counts_now c.start.new.station t o told le leaves)
-    (λ is told gaz mirrors. some_none _ gaz mirrors.is (c.in-Err-NotAMirror.ensures.none told _ c.in-Err-NotAMirror.field-0-is)) (λ is. absurd (omega (arith, is))) (λ is. rw c.in-Err-NotAMirror.field-0-is at c.in-Err-NotAMirror.ensures.cause)
+    (λ is told. c.in-Err-NotAMirror.ensures.none told _ c.in-Err-NotAMirror.field-0-is) (λ is. absurd (omega (arith, is))) (λ is. rw c.in-Err-NotAMirror.field-0-is at c.in-Err-NotAMirror.ensures.cause)
 
 -- areas mirror one state
-one_state : (opened first : State) (areas : Area → List ℕ) → mirror_in areas ≡ Some opened.gaz → Mirrors areas first.gaz → opened ≡ first
-one_state opened first areas is mirrors = ap (λ (o : Option Gazetteer). record { gaz = unwrap_or o empty }) (sym is ∙ mirrors.is)
+one_state : (opened first : State) (areas : Area → List ℕ) → Mirrors areas opened.gaz → Mirrors areas first.gaz → opened ≡ first
+one_state opened first areas is mirrors = ap (λ (o : Option Gazetteer). record { gaz = unwrap_or o empty }) (sym is.is ∙ mirrors.is)
 
 pub returns-in-Ok-start : goal.returns-in-Ok-start
 returns-in-Ok-start g c =
@@ -72,7 +68,6 @@ returns-in-Ok-start g c =
           (inr (exit_opened c.in-Ok-start.session.state files _ _ _ _ old mid new c.run.result opening c.in-Ok-start.ensures.holds run e.told))
           failed e.source others) e.answers);
       none = λ is. opened_status c.run.result e.others (inr is);
-      undefined = λ told none. absurd (none c.in-Ok-start.session.state.gaz (record { is = c.in-Ok-start.ensures.state told }));
       unopened = λ is. opened_status c.run.result e.others is;
       emptied = e.emptied;
       taken = e.taken;
