@@ -1,5 +1,5 @@
 //! The opening of a mirror.
-ghost use Rattle.std.specs.Prelude.{◌≡◌, ◌≤◌, ◌+◌, ◌*◌, ℕ, IsTrue, IfOk, IfErr, Some, None};
+ghost use Rattle.std.specs.Prelude.{◌≡◌, ◌≤◌, ◌+◌, ◌*◌, ℕ, IsTrue, IfOk, IfErr, IsErr, Some, None};
 ghost use Rattle.gaz_outside.specs.declared.station.Area.TheVariants.{Root};
 ghost use Rattle.gaz_outside.specs.Station.{Confined, Counts, LeavesOnly};
 ghost use Rattle.gaz_plain.specs.Gazetteer.{Gazetteer};
@@ -83,9 +83,10 @@ pub fn open_plain<T: Station>(alloc: Global, station: &mut T) -> Result<PlainMir
     ensures log { IfErr result (λ why. IsTrue (T.view station.old).is_told → why ≡ OpenFault.NotAMirror Place.Log → HasNoLog (T.view station.old).bytes) }
     ensures root { IfErr result (λ why. IsTrue (T.view station.old).is_told → why ≡ OpenFault.NotAMirror Place.Root → HasLog (T.view station.old).bytes) }
 
-    // Where all outcomes have one gazetteer it is this one that opens.
+    // Where all outcomes have one gazetteer it is this one that opens, and where the areas have none nothing opens.
     ensures one { IfOk result (λ mirror. IsTrue (T.view station.old).is_told → (gaz : Gazetteer) → AllHold (T.view station.old) gaz → mirror.gaz ≡ gaz) }
     ensures nowhere { IfErr result (λ why. IsTrue (T.view station.old).is_told → (place : _) → why ≡ OpenFault.NotAMirror place → HasNone (T.view station.old)) }
+    ensures undefined { IsTrue (T.view station.old).is_told → ((gaz : Gazetteer) → Mirrors (T.view station.old).bytes gaz → ⊥) → IsErr result }
 
     // In pieces of 4,096 bytes: it reads at most eight for each slot to redo and eight more, one for the root page, and those
     // of the text that this page names. It writes at most the slots and the gate. Where nothing is to be redone it writes

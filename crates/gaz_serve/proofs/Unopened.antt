@@ -11,9 +11,9 @@ use Rattle.gaz_open.specs.Holds.{IsFound}
 use Rattle.gaz_turns.proofs.Told.{same_printed}
 use Rattle.gaz_turns.proofs.Underway.{ends_early}
 use Rattle.gaz_serve.specs.Ran.{IsUnopened, ServeRan}
-use Rattle.gaz_serve.proofs.Changing.{always}
 use Rattle.gaz_serve.proofs.Answered.{IsOpening, answered, run_unopened, unlike}
 use Rattle.gaz_serve.proofs.Taken.{taken_nothing}
+use Rattle.gaz_serve.proofs.Telling.{tells_unopened}
 
 -- no call yet
 pub opens_nothing : (v : StationView) → ((c : Outcome) → IsTrue v.is_told → v.left_since v.moment c → Leaves v c) → IsOpening v v
@@ -45,17 +45,18 @@ module _ {S F T : Type 0} (source : S → SourceView) (shelf : F → ShelfView) 
       let printed = same_printed (station old) (station new) opening.told opening.printed in
       let unopened : IsUnopened s s f f (station old) (station new) status = record { why = why; source = refl; shelf = refl; printed = printed } in
       record {
-        answers = λ told first mirrors. always _ (λ files.
-            answered first files (left_of (source s)) (left_of (source s)) (source s).faults (source s).faults (shelf f).faults (shelf f).faults (station old) (station new) (IsUnopened s s f f (station old) (station new) status) status
-            (run_unopened first files (left_of (source s)) (shelf f).faults (station old) (station new) status fits why printed
-            (λ told holds. ends_early files first.gaz (station old) (station new) status (leaves_weaker (station old) (station new) _ _ (λ c found. found_still (station old) first.gaz c holds found) (opening.moments told)) (opening.printed told) (λ t c le leaves. counts t c (still told) le leaves))
+        answers = λ told shelf_told first mirrors.
+            answered first (left_of (source s)) (left_of (source s)) (source s).faults (source s).faults (shelf f) (shelf f) (station old) (station new) (IsUnopened s s f f (station old) (station new) status) status
+            (run_unopened first (left_of (source s)) (shelf f) (station old) (station new) status fits why printed
+            (λ told holds. ends_early first.gaz (station old) (station new) status (leaves_weaker (station old) (station new) _ _ (λ c found. found_still (station old) first.gaz c holds found) (opening.moments told)) (opening.printed told) (λ t c le leaves. counts t c (still told) le leaves))
             (λ told nothing. record { bytes = (opening.untouched told nothing).bytes; writes = opening.unwritten told nothing }))
-            (λ told. leaves_weaker (station old) (station new) _ _ (λ c found. inl found) (opening.moments told)) (inl unopened) failed (λ is. no_status status 4 why (inr refl) is) (of_all status why));
+            (λ told. leaves_weaker (station old) (station new) _ _ (λ c found. inl found) (opening.moments told)) (inl unopened) failed (λ is. no_status status 4 why (inr refl) is) (of_all status why);
+        failures = tells_unopened (shelf f) (station old) (station new) status fits printed;
         none = none;
         unopened = λ is. unopened;
         emptied = λ is. no_status status 0 why (inl (omega arith)) is;
         taken = taken_nothing 65536 (left_of (source s));
-        same = record { told = refl; files = refl };
+        shelf_told = refl;
         numbers = inl (λ n. refl);
         station_failed = failed;
         station_kept = kept;

@@ -1,25 +1,14 @@
 -- What a run leaves is what the next one begins with.
-use Rattle.std.proofs.Common.{◌≡◌, ⊎_elim, ℕ, ◌≤◌, List, ◌++◌, IsTrue, refl, sym, ◌∙◌, ap, subst}
-use Rattle.std.specs.Prelude.{unwrap_or}
+use Rattle.std.proofs.Common.{◌≡◌, ⊎_elim, ℕ, ◌≤◌, List, ◌++◌, IsTrue, refl, sym, ◌∙◌, subst}
 use Rattle.std.proofs.Transfers.{drop-appended}
 use Rattle.gaz_outside.specs.declared.station.Area.{Area}
 use Rattle.gaz_outside.specs.Station.{StationView, Outcome, Leaves}
 use Rattle.gaz_plain.specs.Gazetteer.{Gazetteer, empty}
-use Rattle.gaz_open.specs.Content.{mirror_in, Mirrors, SameMirror}
+use Rattle.gaz_open.specs.Content.{Mirrors, SameMirror}
 use Rattle.gaz_open.specs.Holds.{AllHold}
 use Rattle.gaz_turns.specs.Head.{Course, Keeps, IsStop, last_of}
-use Rattle.gaz_open.proofs.Back.{empty_at_first}
+use Rattle.gaz_open.proofs.Mirrored.{one_mirror, same_areas, empty_mirror}
 use Rattle.gaz_turns.specs.Life.{Run, Life, last_run, more_runs, first_run, printed_since, FollowOn, Follows, BeginsEmpty, AllKeep, IsAcked, GoesOn, course_of}
-
--- areas that are the same mirror the same
-same_areas : (a b : Area → List ℕ) → ((area : Area) → a area ≡ b area) → SameMirror a b
-same_areas a b same gaz =
-    let is : a ≡ b = λ i area. same area i in
-    (λ m. subst (λ areas. Mirrors areas gaz) is m, λ m. subst (λ areas. Mirrors areas gaz) (sym is) m)
-
--- areas mirror one gazetteer
-one_mirror : (areas : Area → List ℕ) (x y : Gazetteer) → Mirrors areas x → Mirrors areas y → x ≡ y
-one_mirror areas x y a b = ap (λ o. unwrap_or o x) (sym a.is ∙ b.is)
 
 -- so areas that mirror one gazetteer mirror the same
 same_by_one : (a b : Area → List ℕ) (gaz : Gazetteer) → Mirrors a gaz → Mirrors b gaz → SameMirror a b
@@ -66,9 +55,9 @@ module _ {S : Type 0} (view : S → StationView)
     goes (last_run run) follows gaz holds keep = (holds, keep.1 gaz holds)
     goes (more_runs run life) follows gaz holds keep =
         let kept = keep.0.1 gaz holds in
-        let f = found run (first_run life).entry follows.0 (course_of run gaz kept.turns) keep.0.0 kept.keeps in
+        let f = found run (first_run life).entry follows.0 (course_of gaz kept.turns) keep.0.0 kept.keeps in
         (holds, kept, f.next, f.acked, goes life follows.1 f.next f.holds keep.1)
 
     pub live : (life : Life S) (follows : Follows view life) → BeginsEmpty view life → AllKeep view life → GoesOn view empty life follows
     live life follows begins keep = goes life follows empty
-        (λ c leaves. record { is = ap mirror_in (λ i area. begins area (c.areas area) (leaves.areas area) i) ∙ empty_at_first }) keep
+        (λ c leaves. empty_mirror c.areas (λ area. begins area (c.areas area) (leaves.areas area))) keep

@@ -4,7 +4,6 @@ use Rattle.std.specs.List.{list_any}
 use Rattle.gaz_outside.specs.declared.station.Area.{Area}
 use Rattle.gaz_outside.specs.Station.{StationView, Outcome, Leaves, LeavesOnly}
 use Rattle.gaz_plain.specs.Gazetteer.{Gazetteer}
-use Rattle.gaz_plain.specs.Load.{Files}
 use Rattle.gaz_reply.specs.Reply.{acks}
 use Rattle.gaz_open.specs.Content.{Mirrors}
 use Rattle.gaz_open.specs.Holds.{AllHold, IsFound}
@@ -19,23 +18,22 @@ pub record IsStored (line : List ℕ) : Type 0 where
   pub tab : has_byte 9 line ≡ true
   pub one_line : has_byte 10 line ≡ false
 
--- What a run does: the state at entry, the files, and its turns.
+-- What a run does: the state at entry, and its turns.
 pub record Course : Type 0 where
   pub first : State
-  pub files : Files
   pub turns : List Turn
 
 -- the text of the replies of a course
 abbrev pub replies_of : Course → List ℕ
-replies_of course = replies course.first course.files course.turns
+replies_of course = replies course.first course.turns
 
 -- the gazetteer after the first k accepted changes, if there are so many
 abbrev pub after_changes : ℕ → Course → Option Gazetteer
-after_changes k course = after k course.first course.files course.turns
+after_changes k course = after k course.first course.turns
 
 -- the run's last gazetteer
 abbrev pub last_of : Course → Gazetteer
-last_of course = (state_after course.first course.files course.turns).gaz
+last_of course = (state_after course.first course.turns).gaz
 
 -- The text is a front of the other.
 abbrev pub IsFront : List ℕ → List ℕ → Type 0

@@ -90,6 +90,9 @@ returns-in-Err-read_mirror-clause-nowhere g c told place is =
     let run = c.read_mirror.ensures.stays told1 in
     has_none v0 (λ a. g.met.T.Station.may_stay c.args.station.now a told) (read_settled v0 v1 v2 settled run ∙ c.in-Err-read_mirror.ensures.none told1 place is)
 
+pub returns-in-Ok-clause-undefined : goal.returns-in-Ok-clause-undefined
+returns-in-Ok-clause-undefined g c told none = absurd (none c.in-Ok.mirror.gaz (returns-in-Ok-clause-opened g c told))
+
 pub returns-in-Ok-clause-now : goal.returns-in-Ok-clause-now
 returns-in-Ok-clause-now g c told =
     let v0 = g.T.Station.view c.args.station.now in
