@@ -1,4 +1,5 @@
 pub mod Back
+pub mod Mirrored
 pub mod Opened
 pub mod Parsed
 mod Examples

@@ -19,7 +19,7 @@ use Rattle.gaz_num.specs.Numbers.{some_if}
 use Rattle.gaz_page.specs.Root.{root_in, page_in}
 use Rattle.gaz_page.specs.declared.root.PlainRoot.{PlainRoot}
 use Rattle.gaz_page.specs.declared.page.Side.{Side}
-use Rattle.gaz_open.specs.Content.{mirror_in, gaz_in, gaz_of, named_by, side_area, text_at}
+use Rattle.gaz_open.specs.Content.{mirror_in, Mirrors, SameMirror, gaz_in, gaz_of, named_by, side_area, text_at}
 use Rattle.gaz_open.specs.Fits.{Fits, HasStable, Names}
 use Rattle.gaz_open.proofs.Back.{mirror_closed, side_three}
 use Rattle.gaz_open.specs.Opens.{HasNoLog, IsSettled, NothingToRedo, text_pieces, content_pieces}
@@ -33,15 +33,19 @@ same_areas f h is = ap mirror_in (λ i a. is a i)
 
 -- the areas as they read are an outcome
 pub holds_now : (v : StationView) (gaz : Gazetteer) → ((a : Area) → v.may_leave a (v.bytes a)) → AllHold v gaz → mirror_in v.bytes ≡ Some gaz
-holds_now v gaz stay holds = let o : Outcome = record { areas = v.bytes; text = v.printed } in holds o (record { areas = stay; text = refl })
+holds_now v gaz stay holds = let o : Outcome = record { areas = v.bytes; text = v.printed } in (holds o (record { areas = stay; text = refl })).is
+
+-- where the readings are the same, so are the mirrors
+same_mirror : (a b : Area → List ℕ) → mirror_in a ≡ mirror_in b → SameMirror a b
+same_mirror a b same gaz = (λ m. record { is = sym same ∙ m.is }, λ m. record { is = same ∙ m.is })
 
 -- what the areas as they read hold
 found_as_it_reads : (v : StationView) (c : Outcome) → ((a : Area) → v.may_leave a (v.bytes a)) → mirror_in c.areas ≡ mirror_in v.bytes → c.text ≡ v.printed → IsFound v c
-found_as_it_reads v c stay same text = (record { areas = v.bytes; text = v.printed }, record { areas = stay; text = refl }, same, text)
+found_as_it_reads v c stay same text = (record { areas = v.bytes; text = v.printed }, record { areas = stay; text = refl }, same_mirror c.areas v.bytes same, text)
 
 -- where all outcomes have one gazetteer, it is this one that is found
 pub found_still : (v : StationView) (gaz : Gazetteer) (c : Outcome) → AllHold v gaz → IsFound v c → IsStill gaz v c
-found_still v gaz c holds found = (found.2 ∙ holds found.0 found.1, found.3)
+found_still v gaz c holds found = ((found.2 gaz).1 (holds found.0 found.1), found.3)
 
 module _ (v0 v1 : StationView) (run : Confined SameBytes v0 v1) where
   -- while the areas are synced
@@ -50,7 +54,7 @@ module _ (v0 v1 : StationView) (run : Confined SameBytes v0 v1) where
       leaves_weaker v0 v1 _ _
       (λ c near.
       let o : Outcome = record { areas = λ a. (near.areas a).0; text = v0.printed } in
-      (o, record { areas = λ a. (near.areas a).1; text = refl }, same_areas c.areas o.areas (λ a. (near.areas a).2), near.text))
+      (o, record { areas = λ a. (near.areas a).1; text = refl }, same_mirror c.areas o.areas (same_areas c.areas o.areas (λ a. (near.areas a).2)), near.text))
       run.moments
 
   -- while a stop is recovered from
@@ -177,7 +181,7 @@ module _ (v0 v1 v2 : StationView) (settled : IsSettled v0 v1) (run : Confined Sa
   -- all outcomes have what was read
   pub holds_then : (gaz : Gazetteer) → mirror_in v0.bytes ≡ Some gaz → AllHold v2 gaz
   holds_then gaz is c leaves =
-      same_areas c.areas v1.bytes (λ a. all_stable a (c.areas a) (leaves.areas a) ∙ run.bytes a) ∙ settled_same ∙ is
+      record { is = same_areas c.areas v1.bytes (λ a. all_stable a (c.areas a) (leaves.areas a) ∙ run.bytes a) ∙ settled_same ∙ is }
 
   pub read_settled : mirror_in v0.bytes ≡ gaz_in (three v1.bytes)
   read_settled = sym settled_same ∙ mirror_closed v1.bytes settled.closed

@@ -81,6 +81,14 @@ gaz_in c = if nat_lt (length c.root) 4096 then Some empty else option_and_then (
 unfoldable pub mirror_in : (Area → List ℕ) → Option Gazetteer
 mirror_in areas = option_and_then gaz_in (content areas)
 
+-- Five areas mirror a gazetteer.
+pub record Mirrors (areas : Area → List ℕ) (gaz : Gazetteer) : Type 0 where
+  pub is : mirror_in areas ≡ Some gaz
+
+-- Five areas mirror what others do.
+abbrev pub SameMirror : (Area → List ℕ) → (Area → List ℕ) → Type 0
+SameMirror areas others = (gaz : Gazetteer) → (Mirrors areas gaz → Mirrors others gaz) × (Mirrors others gaz → Mirrors areas gaz)
+
 -- the areas with the text of a gazetteer written into the area of a side, and a root page that names it
 abbrev pub written : Side → ℕ → Gazetteer → (Area → List ℕ) → Area → List ℕ
 written side date gaz areas area.Mark = areas area.Mark

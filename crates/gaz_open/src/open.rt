@@ -7,7 +7,7 @@ ghost use Rattle.gaz_redo.specs.Content.{content, three};
 ghost use Rattle.gaz_redo.specs.Slots.{SameBytes};
 ghost use Rattle.gaz_redo.specs.Recovered.{AllStable, OnlyRise, SlotsToRedo};
 ghost use Rattle.gaz_page.specs.Root.{root_in};
-ghost use Rattle.gaz_open.specs.Content.{gaz_in, mirror_in};
+ghost use Rattle.gaz_open.specs.Content.{gaz_in, Mirrors};
 ghost use Rattle.gaz_open.specs.Holds.{AllHold, HasNone, IsFound};
 ghost use Rattle.gaz_open.specs.Fits.{Fits, Names};
 ghost use Rattle.gaz_open.specs.Opens.{HasLog, HasNoLog, NothingToRedo, FailsOnce, text_pieces, content_pieces};
@@ -69,7 +69,7 @@ fn read_mirror<T: Station>(alloc: Global, station: &mut T) -> Result<PlainMirror
 /// Opens the mirror: syncs the areas in their order, recovers from a stop, and reads the text. It prints nothing.
 pub fn open_plain<T: Station>(alloc: Global, station: &mut T) -> Result<PlainMirror, OpenFault>
     // What opens is the gazetteer of the areas. The gate is closed then, nothing is pending, and Root says where the text is.
-    ensures opened { IfOk result (λ mirror. IsTrue (T.view station.old).is_told → mirror_in (T.view station.old).bytes ≡ Some mirror.gaz) }
+    ensures opened { IfOk result (λ mirror. IsTrue (T.view station.old).is_told → Mirrors (T.view station.old).bytes mirror.gaz) }
     ensures fits { IfOk result (λ mirror. IsTrue (T.view station.old).is_told → Fits mirror.side (T.view station.new)) }
     ensures stable { IfOk result (λ mirror. IsTrue (T.view station.old).is_told → AllStable (T.view station.new)) }
     ensures now { IfOk result (λ mirror. IsTrue (T.view station.old).is_told → AllHold (T.view station.new) mirror.gaz) }
@@ -79,14 +79,14 @@ pub fn open_plain<T: Station>(alloc: Global, station: &mut T) -> Result<PlainMir
     ensures printed { IsTrue (T.view station.old).is_told → (T.view station.new).printed ≡ (T.view station.old).printed }
 
     // It says that there is no mirror only where the areas have no gazetteer, and which of the log and Root is to blame.
-    ensures none { IfErr result (λ why. IsTrue (T.view station.old).is_told → (place : _) → why ≡ OpenFault.NotAMirror place → mirror_in (T.view station.old).bytes ≡ None) }
+    ensures none { IfErr result (λ why. IsTrue (T.view station.old).is_told → (place : _) → why ≡ OpenFault.NotAMirror place → (gaz : Gazetteer) → Mirrors (T.view station.old).bytes gaz → ⊥) }
     ensures log { IfErr result (λ why. IsTrue (T.view station.old).is_told → why ≡ OpenFault.NotAMirror Place.Log → HasNoLog (T.view station.old).bytes) }
     ensures root { IfErr result (λ why. IsTrue (T.view station.old).is_told → why ≡ OpenFault.NotAMirror Place.Root → HasLog (T.view station.old).bytes) }
 
     // Where all outcomes have one gazetteer it is this one that opens, and where the areas have none nothing opens.
     ensures one { IfOk result (λ mirror. IsTrue (T.view station.old).is_told → (gaz : Gazetteer) → AllHold (T.view station.old) gaz → mirror.gaz ≡ gaz) }
     ensures nowhere { IfErr result (λ why. IsTrue (T.view station.old).is_told → (place : _) → why ≡ OpenFault.NotAMirror place → HasNone (T.view station.old)) }
-    ensures undefined { IsTrue (T.view station.old).is_told → mirror_in (T.view station.old).bytes ≡ None → IsErr result }
+    ensures undefined { IsTrue (T.view station.old).is_told → ((gaz : Gazetteer) → Mirrors (T.view station.old).bytes gaz → ⊥) → IsErr result }
 
     // In pieces of 4,096 bytes: it reads at most eight for each slot to redo and eight more, one for the root page, and those
     // of the text that this page names. It writes at most the slots and the gate. Where nothing is to be redone it writes

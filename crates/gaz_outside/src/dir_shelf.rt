@@ -1,7 +1,7 @@
 //! The files of the current folder. It tells no bytes.
-ghost use Rattle.std.specs.Prelude.{◌≡◌, ◌≢◌, ℕ, ◌≤◌, ◌<◌, ◌↔◌, ◌^◌, false, Some, None, length, IfErr, IfOk, IfSome, IsSome, IsErr, IsFalse, option_map};
+ghost use Rattle.std.specs.Prelude.{◌≡◌, ◌≢◌, ℕ, ◌≤◌, ◌<◌, ◌↔◌, ◌^◌, false, [], Some, None, length, IfErr, IfOk, IfSome, IsSome, IsErr, IsFalse, option_map};
 ghost use Rattle.std.specs.IoError.{error_kind};
-ghost use Rattle.gaz_outside.specs.Outside.{RisesOnce, HasCause, SameFiles, Opens, Blames, files_of};
+ghost use Rattle.gaz_outside.specs.Outside.{RisesOnce, HasCause, FindsFiles, Opens, Blames, files_of};
 
 use crate::open_files::{NamedFile, OpenFiles};
 use crate::short_name::{ShortName, short_name};
@@ -96,6 +96,7 @@ where
     ghost view = { λ s. record {
       is_told = false;
       files = λ _. None;
+      earlier = [];
       opened = name_in s.files;
       last_fault = option_map (λ name. name.bytes) s.last_fault;
       faults = s.faults;
@@ -108,9 +109,9 @@ where
     /// With eight open files it fails.
     fn open(&mut self, name: &str) -> Result<Option<u64>, Failed>
         requires { length name.now ≤ 48 }
-        ensures found { IfOk result (λ number. IfSome (files_of (⟦<DirShelf<'a, R> as Shelf>⟧.view self.old)) (λ files. IsSome number ↔ IsSome (files name.now))) }
+        ensures found { IfOk result (λ number. IfSome (files_of (⟦<DirShelf<'a, R> as Shelf>⟧.view self.new)) (λ files. IsSome number ↔ IsSome (files name.now))) }
         ensures opens { Opens name.now (⟦<DirShelf<'a, R> as Shelf>⟧.view self.old) (⟦<DirShelf<'a, R> as Shelf>⟧.view self.new) result }
-        ensures same { SameFiles (⟦<DirShelf<'a, R> as Shelf>⟧.view self.old) (⟦<DirShelf<'a, R> as Shelf>⟧.view self.new) }
+        ensures files { FindsFiles (⟦<DirShelf<'a, R> as Shelf>⟧.view self.old) (⟦<DirShelf<'a, R> as Shelf>⟧.view self.new) }
         ensures blames { Blames (Some name.now) (⟦<DirShelf<'a, R> as Shelf>⟧.view self.old) (⟦<DirShelf<'a, R> as Shelf>⟧.view self.new) result }
         ensures cause { HasCause (⟦<DirShelf<'a, R> as Shelf>⟧.view self.old).faults (⟦<DirShelf<'a, R> as Shelf>⟧.view self.new).faults result }
         ensures place { IfOk result (λ number. IfSome number (λ place. place < 8)) }

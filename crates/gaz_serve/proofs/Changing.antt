@@ -1,7 +1,7 @@
 -- What a load and a day come to, from what their files come to.
-use Rattle.std.proofs.Common.{◌≡◌, ◌≢◌, ℕ, Bool, true, false, List, [], ◌∷◌, refl, ap, arith, Option, Some, None, ◌∙◌, sym, subst, ◌⊎◌, inl, inr}
+use Rattle.std.proofs.Common.{◌≡◌, ◌≢◌, ℕ, Bool, true, false, IsTrue, List, [], ◌∷◌, refl, ap, arith, Option, Some, None, ◌∙◌, sym, subst, ◌⊎◌, inl, inr}
 use Rattle.std.specs.Prelude.{IfSome, IsSome, Result, Ok, Err, option_and_then, ok_or, if◌then◌else◌}
-use Rattle.gaz_outside.specs.Outside.{ShelfView, OpensNumber, SameNumbers, files_of, bytes_of}
+use Rattle.gaz_outside.specs.Outside.{ShelfView, FindsFiles, SameFiles, OpensNumber, SameNumbers, NoneOpen, files_of, bytes_of}
 use Rattle.gaz_num.specs.declared.words.FileName.{FileName}
 use Rattle.gaz_num.specs.declared.words.FileName.TheVariants.{Rows, Modifications, Deletes}
 use Rattle.gaz_num.specs.Refusal.{Refusal, absent, ◌>>=◌}
@@ -11,7 +11,7 @@ use Rattle.gaz_plain.specs.Fold.{File, fold}
 use Rattle.gaz_plain.specs.Load.{Files, load, day, files_of as files_named, day_files, in_sequence}
 use Rattle.gaz_serve.specs.declared.change.ChangeFault.{ChangeFault}
 use Rattle.gaz_serve.specs.declared.change.ChangeFault.TheVariants.{NotLoaded, Sequence, Absent, Shelf, TooLong, Malformed, Full, Memory}
-use Rattle.gaz_serve.specs.Change.{Gives, Opened, NoneOpen, Closes}
+use Rattle.gaz_serve.specs.Change.{Gives, Opened, Closes}
 use Rattle.gaz_plain.proofs.Folds.{fold-append}
 use Rattle.gaz_serve.proofs.Folding.{file_of}
 
@@ -24,12 +24,12 @@ weaker None f h = tt
 weaker (Some x) f h = f x h
 
 -- a file that couldn't be opened
-pub open_fault : (name : FileName) (old new : ShelfView) (fault : ChangeFault) (f : Files → Result Gazetteer Refusal) → Opened name old new (Err fault) → ((files : Files) → files (file_text name) ≡ None → f files ≡ Err (absent name)) → IfSome (files_of old) (λ files. Gives (f files) (Err fault))
+pub open_fault : (name : FileName) (old new : ShelfView) (fault : ChangeFault) (f : Files → Result Gazetteer Refusal) → Opened name old new (Err fault) → ((files : Files) → files (file_text name) ≡ None → f files ≡ Err (absent name)) → IfSome (files_of new) (λ files. Gives (f files) (Err fault))
 open_fault name old new NotLoaded f h none = absurd h
 open_fault name old new (Sequence have) f h none = absurd h
 open_fault name old new (Absent file) f h none =
-    weaker (files_of old) (λ files is. none files is ∙ ap (λ n. Err (absent n)) (sym h.0)) h.2
-open_fault name old new (Shelf file) f h none = always (files_of old) (λ files. tt)
+    weaker (files_of new) (λ files is. none files is ∙ ap (λ n. Err (absent n)) (sym h.0)) h.2
+open_fault name old new (Shelf file) f h none = always (files_of new) (λ files. tt)
 open_fault name old new (TooLong file) f h none = absurd h
 open_fault name old new (Malformed file line reason) f h none = absurd h
 open_fault name old new (Full file line table) f h none = absurd h
@@ -132,20 +132,40 @@ pub both_known : {A B C : Files → Type 0} (known : Option Files) → IfSome kn
 both_known None a b f = tt
 both_known (Some files) a b f = f files a b
 
+-- a fact of the files that the shelf told before
+pub told_before : (P : Files → Type 0) (old new : ShelfView) → files_of new ≡ files_of old → IfSome (files_of new) P → IfSome (files_of old) P
+told_before P old new same h = subst (λ known. IfSome known P) same h
+
+-- while a number is open the files stay
+pub stays_open : (old new : ShelfView) (number : ℕ) (name : List ℕ) → FindsFiles old new → old.opened number ≡ Some name → SameFiles old new
+stays_open old new number name (inl same) is = same
+stays_open old new number name (inr other) is = absurd (none_is name (sym (other.closed number) ∙ is))
+  where
+    none_is : (name : List ℕ) → None ≡ Some name → ⊥
+    none_is name is = cc is
+
+-- what was found stays
+pub finds_then : (old mid new : ShelfView) → FindsFiles old mid → SameFiles mid new → FindsFiles old new
+finds_then old mid new (inl same) stay = inl (record { told = stay.told ∙ same.told; files = stay.files ∙ same.files; earlier = stay.earlier ∙ same.earlier })
+finds_then old mid new (inr other) stay = inr (record { told = stay.told ∙ other.told; closed = other.closed; earlier = stay.earlier ∙ other.earlier })
+
+pub same_then : (old mid new : ShelfView) → SameFiles old mid → SameFiles mid new → SameFiles old new
+same_then old mid new same stay = record { told = stay.told ∙ same.told; files = stay.files ∙ same.files; earlier = stay.earlier ∙ same.earlier }
+
 -- the second file couldn't be opened
-pub second_fault : (gaz : Gazetteer) (date : ℕ) (old mid new : ShelfView) (fault : ChangeFault) → in_sequence gaz.date date ≡ Ok date → IfSome (files_of old) (λ files. IsSome (files (file_text (Modifications date)))) → files_of mid ≡ files_of old → Opened (Deletes date) mid new (Err fault) → IfSome (files_of old) (λ files. Gives (day gaz files date) (Err fault))
-second_fault gaz date old mid new NotLoaded next some same h = absurd h
-second_fault gaz date old mid new (Sequence have) next some same h = absurd h
-second_fault gaz date old mid new (Absent file) next some same h =
-    both_known (files_of old) some (subst (λ known. IfSome known (λ files. files (file_text (Deletes date)) ≡ None)) same h.2)
+pub second_fault : (gaz : Gazetteer) (date : ℕ) (mid new : ShelfView) (fault : ChangeFault) → in_sequence gaz.date date ≡ Ok date → IfSome (files_of mid) (λ files. IsSome (files (file_text (Modifications date)))) → files_of new ≡ files_of mid → Opened (Deletes date) mid new (Err fault) → IfSome (files_of new) (λ files. Gives (day gaz files date) (Err fault))
+second_fault gaz date mid new NotLoaded next some same h = absurd h
+second_fault gaz date mid new (Sequence have) next some same h = absurd h
+second_fault gaz date mid new (Absent file) next some same h =
+    both_known (files_of new) (told_before (λ files. IsSome (files (file_text (Modifications date)))) new mid (sym same) some) h.2
     (λ files there none.
     let text = known_name (file_text (Modifications date)) files (files (file_text (Modifications date))) refl there in
     day_undeleted gaz files date text.0 next text.1 none ∙ ap (λ n. Err (absent n)) (sym h.0))
-second_fault gaz date old mid new (Shelf file) next some same h = always (files_of old) (λ files. tt)
-second_fault gaz date old mid new (TooLong file) next some same h = absurd h
-second_fault gaz date old mid new (Malformed file line reason) next some same h = absurd h
-second_fault gaz date old mid new (Full file line table) next some same h = absurd h
-second_fault gaz date old mid new Memory next some same h = absurd h
+second_fault gaz date mid new (Shelf file) next some same h = always (files_of new) (λ files. tt)
+second_fault gaz date mid new (TooLong file) next some same h = absurd h
+second_fault gaz date mid new (Malformed file line reason) next some same h = absurd h
+second_fault gaz date mid new (Full file line table) next some same h = absurd h
+second_fault gaz date mid new Memory next some same h = absurd h
 
 -- what a file comes to, with its bytes
 pub record FileGives (files : Files) (name : FileName) (first : Gazetteer) (result : Result Gazetteer ChangeFault) : Type 0 where
@@ -176,12 +196,43 @@ day_second gaz date known first mid result next is modified deleted =
     ∙ sym (day_is gaz files date m.bytes d.bytes next m.stands d.stands))
     d.gives)
 
--- a fact of the files that the shelf told before
-pub told_before : (P : Files → Type 0) (old new : ShelfView) → files_of new ≡ files_of old → IfSome (files_of new) P → IfSome (files_of old) P
-told_before P old new same h = subst (λ known. IfSome known P) same h
-
 -- The numbers are as they were or none is open, also after one more request.
 pub closes_on : (names : List FileName) (first mid new : ShelfView) → SameNumbers first mid ⊎ NoneOpen mid → Closes names mid new → SameNumbers first new ⊎ NoneOpen new
-closes_on [] first mid new (inl same) stay = inl (λ n. stay n ∙ same n)
-closes_on [] first mid new (inr none) stay = inr (λ n. stay n ∙ none n)
-closes_on (name ∷ names) first mid new either none = inr none
+closes_on [] first mid new (inl same) stay = inl (λ n. stay.0 n ∙ same n)
+closes_on [] first mid new (inr none) stay = inr (λ n. stay.0 n ∙ none n)
+closes_on (name ∷ names) first mid new either none = inr none.0
+
+finds_told : (old new : ShelfView) → FindsFiles old new → new.is_told ≡ old.is_told
+finds_told old new (inl same) = same.told
+finds_told old new (inr other) = other.told
+
+pub closes_told : (names : List FileName) (old new : ShelfView) → Closes names old new → new.is_told ≡ old.is_told
+closes_told [] old new stay = stay.1.told
+closes_told (name ∷ names) old new found = finds_told old new found.1
+
+-- what a shelf that tells its files tells
+told_now : (told : Bool) (files : Files) (P : Files → Type 0) → IsTrue told → IfSome (if told then Some files else None) P → P files
+told_now true files P is h = h
+told_now false files P is h = absurd (cc is)
+
+pub when_told : (P : Files → Type 0) (view : ShelfView) → IsTrue view.is_told → IfSome (files_of view) P → P view.files
+unfolding files_of
+when_told P view told h = told_now view.is_told view.files P told h
+
+-- the files of a shelf that tells them, where they are as before
+pub told_files : (old new : ShelfView) → IsTrue old.is_told → new.is_told ≡ old.is_told → files_of new ≡ files_of old → new.files ≡ old.files
+unfolding files_of
+told_files old new told still same = sym (told_now old.is_told old.files (λ files. files ≡ new.files) told (subst (λ (known : Option Files). IfSome known (λ files. files ≡ new.files)) same (there new.is_told new.files (subst (λ (b : Bool). IsTrue b) (sym still) told))))
+  where
+    there : (told : Bool) (files : Files) → IsTrue told → IfSome (if told then Some files else None) (λ other. other ≡ files)
+    there true files is = refl
+    there false files is = tt
+
+-- the files behind a request: as before, or others, before which those stood
+pub closes_found : (names : List FileName) (old new : ShelfView) → IsTrue old.is_told → Closes names old new → ((new.files ≡ old.files) × (new.earlier ≡ old.earlier)) ⊎ (new.earlier ≡ old.files ∷ old.earlier)
+closes_found [] old new told stay = inl (told_files old new told stay.1.told stay.1.files, stay.1.earlier)
+closes_found (name ∷ names) old new told found = by found.1
+  where
+    by : FindsFiles old new → ((new.files ≡ old.files) × (new.earlier ≡ old.earlier)) ⊎ (new.earlier ≡ old.files ∷ old.earlier)
+    by (inl same) = inl (told_files old new told same.told same.files, same.earlier)
+    by (inr other) = inr other.earlier

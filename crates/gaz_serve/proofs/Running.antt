@@ -15,6 +15,7 @@ use Rattle.gaz_lines.proofs.Pieces.{are_more, lines_are_lines}
 use Rattle.gaz_lines.proofs.Rests.{rest_with}
 use Rattle.gaz_lines.proofs.Told.{Told, told_line, told_too_long, told_end}
 use Rattle.gaz_plain.specs.Load.{Files}
+use Rattle.gaz_open.specs.Content.{Mirrors}
 use Rattle.gaz_reply.specs.Reply.{reply_text, refused, is_change}
 use Rattle.gaz_reply.specs.Tells.{MayBeCut}
 use Rattle.gaz_reply.proofs.Pieces.{append_none, append_two}
@@ -23,45 +24,56 @@ use Rattle.gaz_num.specs.Refusal.{request}
 use Rattle.gaz_open.specs.Holds.{AllHold}
 use Rattle.gaz_words.specs.Grammar.{request_in}
 use Rattle.gaz_words.specs.declared.request.BadRequest.TheVariants.{Length}
-use Rattle.gaz_turns.specs.Turns.{answer_to_read, State, Turn, Verdict, plain, memory, shelf, MayBe, answer_at, answer_by, IsLegal, state_after, replies, has_change, is_shelf, shelf_refusals}
+use Rattle.gaz_turns.specs.Turns.{answer_to_read, opens, State, Turn, Verdict, plain, memory, shelf, answer_at, HaveFiles, IsLegal, state_after, replies, has_change, is_shelf, shelf_refusals, blamed_by, blamed_last}
 use Rattle.gaz_turns.specs.Head.{Keeps}
 use Rattle.gaz_turns.specs.Steps.{IsGiven}
 use Rattle.gaz_turns.proofs.Counted.{or_left, or_right}
-use Rattle.gaz_turns.proofs.Tallies.{legal_more, replies_more, state_more, asked_more, change_more}
+use Rattle.gaz_turns.proofs.Tallies.{legal_more, replies_more, state_more, asked_more, change_more, blamed_more}
+use Rattle.gaz_turns.proofs.Filed.{follow_more, each_has}
 use Rattle.gaz_turns.proofs.Told.{told_given}
 use Rattle.gaz_turns.proofs.Underway.{IsUnderWay, starts, goes_on, ends_cut, ends_well}
+use Rattle.gaz_serve.specs.Change.{Closes}
 use Rattle.gaz_serve.specs.Step.{IsBlamed, OneStep}
 use Rattle.gaz_serve.specs.Serve.{Given}
+use Rattle.gaz_serve.proofs.Changing.{closes_found}
 use Rattle.gaz_serve.specs.Ran.{asked, RisesBy, IsHeard, IsUnwritten, RunAnswers}
 
 shelf-append : (turns more : List Turn) → shelf_refusals (turns ++ more) ≡ shelf_refusals turns + shelf_refusals more
 shelf-append turns more = grind (arith, common_steps)
 
--- Turns answered the lines that were given, and their replies were printed.
-pub record UnderWay (first : State) (files : Files) (bytes : Option (List ℕ)) (now : Option Rest) (answered : ℕ) (state : State) (shelf_faults shelf_faults_now : ℕ) (entry station : StationView) : Type 0 where
+-- Turns answered the lines that were given, each with the files that the shelf had then, and their replies were printed. The
+-- areas mirror the state behind them.
+pub record UnderWay (first : State) (bytes : Option (List ℕ)) (now : Option Rest) (answered : ℕ) (shelf shelf_now : ShelfView) (entry station : StationView) : Type 0 where
   pub turns : List Turn
   pub count : length turns ≡ answered
   pub are_lines : AllByRecursion IsLine (asked turns)
   pub told : IfSome bytes (λ text. Told 4096 (asked turns) now text)
-  pub legal : IsLegal first files turns
-  pub state_is : state ≡ state_after first files turns
-  pub causes : RisesBy (shelf_refusals turns) shelf_faults shelf_faults_now
-  pub text_is : printed_of station ≡ append_known (printed_of entry) (replies first files turns)
-  pub unwritten : has_change first files turns ≡ false → AreasStay entry station
-  pub keeps : IsTrue entry.is_told → AllHold entry first.gaz → IsUnderWay files first entry station state turns
+  pub files : HaveFiles shelf turns shelf_now
+  pub legal : IsLegal first turns
+  pub mirrors : Mirrors station.bytes (state_after first turns).gaz
+  pub causes : RisesBy (shelf_refusals turns) shelf.faults shelf_now.faults
+  pub last_cause : shelf_now.last_fault ≡ blamed_last shelf.last_fault turns
+  pub text_is : printed_of station ≡ append_known (printed_of entry) (replies first turns)
+  pub unwritten : has_change first turns ≡ false → AreasStay entry station
+  pub keeps : IsTrue entry.is_told → AllHold entry first.gaz → IsUnderWay first entry station (state_after first turns) turns
 
-refused_one : (line : List ℕ) (verdict : Verdict) → shelf_refusals (record { line = line; verdict = verdict } ∷ []) ≡ cond (is_shelf verdict) 1 0
-refused_one line plain = refl
-refused_one line memory = refl
-refused_one line (shelf file) = refl
+refused_one : (line : List ℕ) (verdict : Verdict) (files : Files) → shelf_refusals (record { line = line; verdict = verdict; files = files } ∷ []) ≡ cond (is_shelf verdict) 1 0
+refused_one line plain files = refl
+refused_one line memory files = refl
+refused_one line (shelf file) files = refl
 
 refused_more : (turns : List Turn) (turn : Turn) → shelf_refusals (turns ++ turn ∷ []) ≡ shelf_refusals turns + cond (is_shelf turn.verdict) 1 0
-refused_more turns turn = shelf-append turns (turn ∷ []) ∙ ap (λ n. shelf_refusals turns + n) (refused_one turn.line turn.verdict)
+refused_more turns turn = shelf-append turns (turn ∷ []) ∙ ap (λ n. shelf_refusals turns + n) (refused_one turn.line turn.verdict turn.files)
 
-rises_more : (n before mid now : ℕ) (verdict : Verdict) (old new : ShelfView) → RisesBy n before mid → old.faults ≡ mid → new.faults ≡ now → IsBlamed verdict old new → RisesBy (n + cond (is_shelf verdict) 1 0) before now
-rises_more n before mid now plain old new rises is_old is_new blamed = let same = blamed.faults in omega (arith, rises, is_old, is_new, same)
-rises_more n before mid now memory old new rises is_old is_new blamed = let same = blamed.faults in omega (arith, rises, is_old, is_new, same)
-rises_more n before mid now (shelf file) old new rises is_old is_new blamed = let once = blamed.faults in omega (arith, rises, is_old, is_new, once)
+rises_more : (n before : ℕ) (verdict : Verdict) (old new : ShelfView) → RisesBy n before old.faults → IsBlamed verdict old new → RisesBy (n + cond (is_shelf verdict) 1 0) before new.faults
+rises_more n before plain old new rises blamed = let same = blamed.faults in omega (arith, rises, same)
+rises_more n before memory old new rises blamed = let same = blamed.faults in omega (arith, rises, same)
+rises_more n before (shelf file) old new rises blamed = let once = blamed.faults in omega (arith, rises, once)
+
+blames_more : (verdict : Verdict) (old new : ShelfView) → IsBlamed verdict old new → new.last_fault ≡ blamed_by verdict old.last_fault
+blames_more plain old new blamed = blamed.last
+blames_more memory old new blamed = blamed.last
+blames_more (shelf file) old new blamed = blamed.last
 
 one_less : (turns : List Turn) (turn : Turn) (answered : ℕ) → length turns ≡ answered → answered ≡ length (turns ++ turn ∷ []) - 1
 one_less turns turn answered count = let more = length-append turns (turn ∷ []) in omega (arith, more, count)
@@ -103,9 +115,9 @@ all_given (Some text) lines now past are told none =
       e.1,
     )
 
-module _ (first : State) (files : Files) (bytes : Option (List ℕ)) (faults faults_now : ℕ) (entry station : StationView) (now : Option Rest) (answered : ℕ) (state : State) (way : UnderWay first files bytes now answered state faults faults_now entry station) where
+module _ (first : State) (bytes : Option (List ℕ)) (shelf shelf_now : ShelfView) (entry station : StationView) (now : Option Rest) (answered : ℕ) (way : UnderWay first bytes now answered shelf shelf_now entry station) where
   -- the source ended, or goes on past the limit
-  pub run_ends : (status : ℕ) (past : Bool) (bytes_now : Option (List ℕ)) → IfSome now (λ rest. rest ≡ rest_with [] past) → status ≢ 3 → status ≢ 4 → status ≢ 5 → status ≢ 6 → (status ≡ 0 → past ≡ false) → (status ≡ 7 → past ≡ true) → RunAnswers first files bytes bytes_now faults faults_now entry station status
+  pub run_ends : (status : ℕ) (past : Bool) (bytes_now : Option (List ℕ)) → IfSome now (λ rest. rest ≡ rest_with [] past) → status ≢ 3 → status ≢ 4 → status ≢ 5 → status ≢ 6 → (status ≡ 0 → past ≡ false) → (status ≡ 7 → past ≡ true) → RunAnswers first bytes bytes_now shelf shelf_now entry station status
   run_ends status past bytes_now none not_cut not_failed not_starved not_none ends passes =
       let all = all_given bytes (asked way.turns) now past way.are_lines way.told none in
       record {
@@ -113,9 +125,12 @@ module _ (first : State) (files : Files) (bytes : Option (List ℕ)) (faults fau
         turns = way.turns;
         unanswered = [];
         lines_are = all.1;
+        files = way.files;
+        same_files = λ files only. each_has files shelf way.turns shelf_now way.files only;
         legal = way.legal;
         causes = way.causes;
-        text = replies first files way.turns;
+        last_cause = way.last_cause;
+        text = replies first way.turns;
         text_is = way.text_is;
         whole = λ is. refl;
         cut = λ is. absurd (not_cut is);
@@ -123,13 +138,13 @@ module _ (first : State) (files : Files) (bytes : Option (List ℕ)) (faults fau
         past = λ is. (refl, all.2 ∙ passes is);
         heard = λ is. absurd (not_failed is);
         heard_before = λ is. absurd (not_cut is);
-        keeps = λ is_told holds. ends_well files first entry station state way.turns status not_cut (way.keeps is_told holds);
+        keeps = λ is_told holds. ends_well first entry station (state_after first way.turns) way.turns status not_cut (way.keeps is_told holds);
         unwritten = λ is_told nothing none. unwritten_by entry station is_told (way.unwritten none);
         unanswering = λ either. ⊎_elim (λ is. absurd (not_starved is)) (λ is. absurd (not_none is)) either;
       }
 
   -- the source failed
-  pub run_fails : (status : ℕ) (bytes_now : Option (List ℕ)) → status ≡ 4 → IsHeard 0 bytes bytes_now answered → RunAnswers first files bytes bytes_now faults faults_now entry station status
+  pub run_fails : (status : ℕ) (bytes_now : Option (List ℕ)) → status ≡ 4 → IsHeard 0 bytes bytes_now answered → RunAnswers first bytes bytes_now shelf shelf_now entry station status
   run_fails status bytes_now four heard =
       let some = lines_given bytes (asked way.turns) now false way.are_lines way.told in
       record {
@@ -137,9 +152,12 @@ module _ (first : State) (files : Files) (bytes : Option (List ℕ)) (faults fau
         turns = way.turns;
         unanswered = some.1;
         lines_are = some.2;
+        files = way.files;
+        same_files = λ files only. each_has files shelf way.turns shelf_now way.files only;
         legal = way.legal;
         causes = way.causes;
-        text = replies first files way.turns;
+        last_cause = way.last_cause;
+        text = replies first way.turns;
         text_is = way.text_is;
         whole = λ is. refl;
         cut = λ is. absurd (omega (arith, four, is));
@@ -147,85 +165,103 @@ module _ (first : State) (files : Files) (bytes : Option (List ℕ)) (faults fau
         past = λ is. absurd (omega (arith, four, is));
         heard = λ is. subst (IsHeard 0 bytes bytes_now) (sym way.count) heard;
         heard_before = λ is. absurd (omega (arith, four, is));
-        keeps = λ is_told holds. ends_well files first entry station state way.turns status (λ is. absurd (omega (arith, four, is))) (way.keeps is_told holds);
+        keeps = λ is_told holds. ends_well first entry station (state_after first way.turns) way.turns status (λ is. absurd (omega (arith, four, is))) (way.keeps is_told holds);
         unwritten = λ is_told nothing none. unwritten_by entry station is_told (way.unwritten none);
         unanswering = λ either. ⊎_elim (λ is. absurd (omega (arith, four, is))) (λ is. absurd (omega (arith, four, is))) either;
       }
 
-  module _ (line : List ℕ) (is_line : IsLine line) (later : Option Rest) (told : IfSome bytes (λ text. Told 4096 (asked way.turns ++ line ∷ []) later text)) (state_now : State) (before after : ShelfView) (station_now : StationView) (is_old : before.faults ≡ faults_now)
-      (still : station.is_told ≡ entry.is_told) (still_now : station_now.is_told ≡ station.is_told) (stay : (a : Area) → IsTrue station.is_told → station.may_leave a (station.bytes a))
+  module _ (line : List ℕ) (is_line : IsLine line) (later : Option Rest) (told : IfSome bytes (λ text. Told 4096 (asked way.turns ++ line ∷ []) later text)) (shelf_told : IsTrue shelf_now.is_told) (after : ShelfView) (station_now : StationView)
+      (is_told : IsTrue station.is_told) (still : station.is_told ≡ entry.is_told) (still_now : station_now.is_told ≡ station.is_told) (stay : (a : Area) → IsTrue station.is_told → station.may_leave a (station.bytes a))
     where
-      is_told_on : IsTrue entry.is_told → IsTrue station.is_told
-      is_told_on is_told = subst (λ (b : Bool). IsTrue b) (sym still) is_told
+      -- the state behind the turns so far
+      abbrev state : State
+      state = state_after first way.turns
+
+      abbrev turn_by : Verdict → Turn
+      turn_by verdict = record { line = line; verdict = verdict; files = after.files }
 
       -- no area is written where the turns so far, and this one, make no change
-      unwritten_on : (verdict : Verdict) → (is_change (answer_by verdict state files line).reply ≡ false → AreasStay station station_now) → has_change first files (way.turns ++ (record { line = line; verdict = verdict }) ∷ []) ≡ false → AreasStay entry station_now
+      unwritten_on : (verdict : Verdict) → (is_change (answer_at state (turn_by verdict)).reply ≡ false → AreasStay station station_now) → has_change first (way.turns ++ turn_by verdict ∷ []) ≡ false → AreasStay entry station_now
       unwritten_on verdict stays none =
-          let turn : Turn = record { line = line; verdict = verdict } in
-          let split = sym (change_more first files way.turns turn) ∙ none in
-          areas_stay_on entry station station_now still (way.unwritten (or_left _ _ split))
-          (stays (subst (λ (s : State). is_change (answer_at s files turn).reply ≡ false) (sym way.state_is) (or_right _ _ split)))
+          let split = sym (change_more first way.turns (turn_by verdict)) ∙ none in
+          areas_stay_on entry station station_now still (way.unwritten (or_left _ _ split)) (stays (or_right _ _ split))
+
+      -- one turn more: its files, its place among legal turns, and its causes
+      files_more : {A E : Type 0} (result : Result A E) (step : OneStep line state shelf_now after station station_now result) → HaveFiles shelf (way.turns ++ turn_by step.verdict ∷ []) after
+      files_more result step =
+          follow_more shelf.files shelf.earlier way.turns (turn_by step.verdict) shelf_now.files shelf_now.earlier after.files after.earlier way.files refl
+          (closes_found (opens state (request_in line)) shelf_now after shelf_told step.closes)
+
+      causes_more : {A E : Type 0} (result : Result A E) (step : OneStep line state shelf_now after station station_now result) → RisesBy (shelf_refusals (way.turns ++ turn_by step.verdict ∷ [])) shelf.faults after.faults
+      causes_more result step = subst (λ n. RisesBy n shelf.faults after.faults) (sym (refused_more way.turns (turn_by step.verdict))) (rises_more (shelf_refusals way.turns) shelf.faults step.verdict shelf_now after way.causes step.blamed)
+
+      last_more : {A E : Type 0} (result : Result A E) (step : OneStep line state shelf_now after station station_now result) → after.last_fault ≡ blamed_last shelf.last_fault (way.turns ++ turn_by step.verdict ∷ [])
+      last_more result step = blames_more step.verdict shelf_now after step.blamed ∙ ap (blamed_by step.verdict) way.last_cause ∙ sym (blamed_more shelf.last_fault way.turns (turn_by step.verdict))
 
       -- one more line is answered
-      pub next_way : {E : Type 0} (m : ℕ) → m ≡ answered + 1 → OneStep {A = Unit {0}} {E = E} files line state state_now before after station station_now (Ok tt) → UnderWay first files bytes later m state_now faults after.faults entry station_now
+      pub next_way : {E : Type 0} (m : ℕ) → m ≡ answered + 1 → OneStep {A = Unit {0}} {E = E} line state shelf_now after station station_now (Ok tt) → UnderWay first bytes later m shelf after entry station_now
       next_way {E = E} m one_more step =
-          let turn : Turn = record { line = line; verdict = step.verdict } in
-          let reply = reply_text (answer_at state files turn).reply in
+          let turn : Turn = turn_by step.verdict in
+          let well : Result (Unit {0}) E = Ok tt in
+          let reply = reply_text (answer_at state turn).reply in
           record {
             turns = way.turns ++ turn ∷ [];
             count = (let more = length-append way.turns (turn ∷ []) in let count = way.count in omega (arith, more, count, one_more));
             are_lines = subst (λ lines. AllByRecursion IsLine lines) (sym (asked_more way.turns turn)) (are_more (asked way.turns) (line ∷ []) way.are_lines (is_line, tt));
             told = subst (λ lines. IfSome bytes (λ text. Told 4096 lines later text)) (sym (asked_more way.turns turn)) told;
-            legal = legal_more first files way.turns turn way.legal (subst (λ (s : State). MayBe step.verdict s files line) way.state_is step.may);
-            state_is = step.given.state_is ∙ ap (λ (s : State). (answer_at s files turn).state) way.state_is ∙ sym (state_more first files way.turns turn);
-            causes = subst (λ n. RisesBy n faults after.faults) (sym (refused_more way.turns turn)) (rises_more (shelf_refusals way.turns) faults faults_now after.faults step.verdict before after way.causes is_old refl step.blamed);
+            files = files_more well step;
+            legal = legal_more first way.turns turn way.legal step.may;
+            mirrors = subst (λ (s : State). Mirrors station_now.bytes s.gaz) (sym (state_more first way.turns turn)) (step.given.mirrors is_told way.mirrors);
+            causes = causes_more well step;
+            last_cause = last_more well step;
             text_is =
                 step.given.printed
                 ∙ ap (λ known. append_known known reply) way.text_is
-                ∙ append_two (printed_of entry) (replies first files way.turns) reply
-                ∙ ap (λ (s : State). append_known (printed_of entry) (replies first files way.turns ++ reply_text (answer_at s files turn).reply)) way.state_is
-                ∙ ap (append_known (printed_of entry)) (sym (replies_more first files way.turns turn));
+                ∙ append_two (printed_of entry) (replies first way.turns) reply
+                ∙ ap (append_known (printed_of entry)) (sym (replies_more first way.turns turn));
             unwritten = λ none. unwritten_on step.verdict step.given.stays none;
-            keeps = λ is_told holds.
-                let run = way.keeps is_told holds in
-                let here = is_told_on is_told in
-                goes_on files first entry station station_now state way.turns turn run (λ a. stay a here) (step.given.moments here run.holds) state_now
-                (printed_whole reply station station_now here still_now step.given.printed) (step.given.holds here run.holds) step.given.state_is;
+            keeps = λ entry_told holds.
+                let run = way.keeps entry_told holds in
+                goes_on first entry station station_now state way.turns turn run (λ a. stay a is_told) (step.given.moments is_told run.holds) (state_after first (way.turns ++ turn ∷ []))
+                (printed_whole reply station station_now is_told still_now step.given.printed) (step.given.holds is_told run.holds) (state_more first way.turns turn);
           }
 
       -- the reply of one more line is cut
       pub run_cut : {E : Type 0} → ((a : Area) → IsTrue station_now.is_told → station_now.may_leave a (station_now.bytes a)) → ((t : ℕ) (c : Outcome) → IsTrue station_now.is_told → t ≤ station_now.moment → Leaves station_now c → station_now.left_since t c)
-          → (status : ℕ) (bytes_now : Option (List ℕ)) → status ≡ 3 → IsHeard 65536 bytes bytes_now answered → (failed : E) → OneStep {A = Unit {0}} {E = E} files line state state_now before after station station_now (Err failed) → RunAnswers first files bytes bytes_now faults after.faults entry station_now status
-      run_cut stay_now counts status bytes_now three heard failed step =
-          let turn : Turn = record { line = line; verdict = step.verdict } in
+          → (status : ℕ) (bytes_now : Option (List ℕ)) → status ≡ 3 → IsHeard 65536 bytes bytes_now answered → (failed : E) → OneStep {A = Unit {0}} {E = E} line state shelf_now after station station_now (Err failed) → RunAnswers first bytes bytes_now shelf after entry station_now status
+      run_cut {E = E} stay_now counts status bytes_now three heard failed step =
+          let turn : Turn = turn_by step.verdict in
+          let bad : Result (Unit {0}) E = Err failed in
           let front = step.given.printed.0 in
           let some = lines_given bytes (asked way.turns ++ line ∷ []) later false (are_more (asked way.turns) (line ∷ []) way.are_lines (is_line, tt)) told in
-          let reply_on : replies first files (way.turns ++ turn ∷ []) ≡ replies first files way.turns ++ reply_text (answer_at state files turn).reply =
-          replies_more first files way.turns turn ∙ ap (λ (s : State). replies first files way.turns ++ reply_text (answer_at s files turn).reply) (sym way.state_is) in
+          let reply_on : replies first (way.turns ++ turn ∷ []) ≡ replies first way.turns ++ reply_text (answer_at state turn).reply = replies_more first way.turns turn in
+          let files_on : HaveFiles shelf (way.turns ++ turn ∷ []) after = files_more bad step in
           record {
             given = some.0;
             turns = way.turns ++ turn ∷ [];
             unanswered = some.1;
             lines_are = some.2 ∙ ap (λ lines. lines ++ some.1) (sym (asked_more way.turns turn));
-            legal = legal_more first files way.turns turn way.legal (subst (λ (s : State). MayBe step.verdict s files line) way.state_is step.may);
-            causes = subst (λ n. RisesBy n faults after.faults) (sym (refused_more way.turns turn)) (rises_more (shelf_refusals way.turns) faults faults_now after.faults step.verdict before after way.causes is_old refl step.blamed);
-            text = replies first files way.turns ++ front;
+            files = files_on;
+            same_files = λ files only. each_has files shelf (way.turns ++ turn ∷ []) after files_on only;
+            legal = legal_more first way.turns turn way.legal step.may;
+            causes = causes_more bad step;
+            last_cause = last_more bad step;
+            text = replies first way.turns ++ front;
             text_is =
                 step.given.printed.2
                 ∙ ap (λ known. append_known known front) way.text_is
-                ∙ append_two (printed_of entry) (replies first files way.turns) front;
+                ∙ append_two (printed_of entry) (replies first way.turns) front;
             whole = λ other. absurd (other three);
             cut = λ is. record {
-              front = (step.given.printed.1.0, reply_on ∙ ap (λ xs. replies first files way.turns ++ xs) step.given.printed.1.1 ∙ sym (append_assoc (replies first files way.turns) front step.given.printed.1.0));
-              begun = λ earlier last same. subst (λ (ts : List Turn). IsPrefix (replies first files ts) (replies first files way.turns ++ front)) (but_last way.turns earlier turn last same) (front, refl);
+              front = (step.given.printed.1.0, reply_on ∙ ap (λ xs. replies first way.turns ++ xs) step.given.printed.1.1 ∙ sym (append_assoc (replies first way.turns) front step.given.printed.1.0));
+              begun = λ earlier last same. subst (λ (ts : List Turn). IsPrefix (replies first ts) (replies first way.turns ++ front)) (but_last way.turns earlier turn last same) (front, refl);
             };
-            keeps = λ is_told holds.
-                let run = way.keeps is_told holds in
-                let here = is_told_on is_told in
-                let now = subst (λ (b : Bool). IsTrue b) (sym still_now) here in
-                subst (λ (n : ℕ). Keeps (record { first = first; files = files; turns = way.turns ++ turn ∷ [] }) entry station_now n) (sym three)
-                (ends_cut files first entry station station_now state way.turns turn run (λ a. stay a here) (step.given.moments here run.holds) (λ a. stay_now a now) (λ t c le leaves. counts t c now le leaves));
-            unwritten = λ is_told nothing none. unwritten_by entry station_now is_told (unwritten_on step.verdict step.given.stays none);
+            keeps = λ entry_told holds.
+                let run = way.keeps entry_told holds in
+                let now = subst (λ (b : Bool). IsTrue b) (sym still_now) is_told in
+                subst (λ (n : ℕ). Keeps (record { first = first; turns = way.turns ++ turn ∷ [] }) entry station_now n) (sym three)
+                (ends_cut first entry station station_now state way.turns turn run (λ a. stay a is_told) (step.given.moments is_told run.holds) (λ a. stay_now a now) (λ t c le leaves. counts t c now le leaves));
+            unwritten = λ entry_told nothing none. unwritten_by entry station_now entry_told (unwritten_on step.verdict step.given.stays none);
             ended = λ is. absurd (omega (arith, three, is));
             past = λ is. absurd (omega (arith, three, is));
             heard = λ is. absurd (omega (arith, three, is));
@@ -234,19 +270,21 @@ module _ (first : State) (files : Files) (bytes : Option (List ℕ)) (faults fau
           }
 
 -- before the first line
-pub way_first : (first : State) (files : Files) (bytes : Option (List ℕ)) (now : Option Rest) (answered : ℕ) (faults : ℕ) (entry : StationView) → faults < 2 ^ 64 → answered ≡ 0 → ((c : Outcome) → IsTrue entry.is_told → entry.left_since entry.moment c → Leaves entry c)
-    → IfSome bytes (λ text. Told 4096 [] now text) → UnderWay first files bytes now answered first faults faults entry entry
-way_first first files bytes now answered faults entry fits none only told = record {
+pub way_first : (first : State) (bytes : Option (List ℕ)) (now : Option Rest) (answered : ℕ) (view : ShelfView) (entry : StationView) → view.faults < 2 ^ 64 → answered ≡ 0 → ((c : Outcome) → IsTrue entry.is_told → entry.left_since entry.moment c → Leaves entry c)
+    → Mirrors entry.bytes first.gaz → IfSome bytes (λ text. Told 4096 [] now text) → UnderWay first bytes now answered view view entry entry
+way_first first bytes now answered view entry fits none only mirrors told = record {
   turns = [];
   count = sym none;
   are_lines = tt;
   told = told;
+  files = (refl, refl);
   legal = tt;
-  state_is = refl;
+  mirrors = mirrors;
   causes = omega (arith, fits);
+  last_cause = refl;
   text_is = append_none (printed_of entry);
   unwritten = λ none. areas_stay_same entry;
-  keeps = λ is_told holds. starts files first entry (λ c left. only c is_told left) holds;
+  keeps = λ is_told holds. starts first entry (λ c left. only c is_told left) holds;
 }
 
 -- a line that is too long is refused by the grammar
@@ -254,13 +292,14 @@ long_request : (line : List ℕ) → 4096 < length line → request_in line ≡ 
 unfolding request_in
 long_request line long = let more : nat_lt 4096 (length line) ≡ true = grind (arith, common_steps) in rw more refl
 
-pub long_step : {E : Type 0} (files : Files) (line : List ℕ) (state : State) (view : ShelfView) (station station_now : StationView) (result : Result (Unit {0}) E) → ((c : Outcome) → IsTrue station.is_told → station.left_since station.moment c → Leaves station c)
-    → 4096 < length line → Prints (reply_text (refused (request (codes "length")))) station station_now result → MayBeCut (reply_text (refused (request (codes "length")))) station station_now → AreasStay station station_now → OneStep files line state state view view station station_now result
-long_step files line state view station station_now result only long printed cut stay = record {
+pub long_step : {E : Type 0} (line : List ℕ) (state : State) (view : ShelfView) (station station_now : StationView) (result : Result (Unit {0}) E) → ((c : Outcome) → IsTrue station.is_told → station.left_since station.moment c → Leaves station c)
+    → 4096 < length line → Prints (reply_text (refused (request (codes "length")))) station station_now result → MayBeCut (reply_text (refused (request (codes "length")))) station station_now → AreasStay station station_now → OneStep line state view view station station_now result
+long_step line state view station station_now result only long printed cut stay = record {
   verdict = plain;
   may = tt;
   blamed = record { faults = refl; last = refl };
-  given = subst (λ r. IsGiven (answer_to_read state files r) state state station station_now result) (sym (long_request line long))
+  closes = subst (λ r. Closes (opens state r) view view) (sym (long_request line long)) (λ n. refl, record { told = refl; files = refl; earlier = refl });
+  given = subst (λ r. IsGiven (answer_to_read state view.files r) state station station_now result) (sym (long_request line long))
       (told_given state (refused (request (codes "length"))) station station_now result only printed cut stay);
 }
 

@@ -5,21 +5,22 @@ use Rattle.gaz_outside.specs.Station.{Outcome, Leaves}
 use Rattle.gaz_outside.proofs.Runs.{begins, confined_start, leaves_weaker}
 use Rattle.gaz_open.proofs.Opened.{found_still}
 use Rattle.gaz_redo.specs.Slots.{SameBytes}
-use Rattle.gaz_open.specs.Content.{mirror_in}
+use Rattle.gaz_plain.specs.Gazetteer.{Gazetteer}
+use Rattle.gaz_open.specs.Content.{Mirrors}
 use Rattle.gaz_open.specs.Holds.{IsFound}
 use Rattle.gaz_turns.proofs.Told.{same_printed}
 use Rattle.gaz_turns.proofs.Underway.{ends_early}
-use Rattle.gaz_serve.specs.Ran.{state_in, IsUnopened, ServeRan}
-use Rattle.gaz_serve.proofs.Changing.{always}
+use Rattle.gaz_serve.specs.Ran.{IsUnopened, ServeRan}
 use Rattle.gaz_serve.proofs.Answered.{IsOpening, answered, run_unopened, unlike}
 use Rattle.gaz_serve.proofs.Taken.{taken_nothing}
+use Rattle.gaz_serve.proofs.Telling.{tells_unopened}
 
 -- no call yet
 pub opens_nothing : (v : StationView) → ((c : Outcome) → IsTrue v.is_told → v.left_since v.moment c → Leaves v c) → IsOpening v v
 opens_nothing v only = record {
   told = refl;
   printed = λ told. refl;
-  moments = λ told. begins v (IsFound v) (λ c left. let now = only c told left in (c, now, refl, now.text));
+  moments = λ told. begins v (IsFound v) (λ c left. let now = only c told left in (c, now, λ gaz. (λ m. m, λ m. m), now.text));
   untouched = λ told nothing. confined_start SameBytes (λ a d. refl) v (λ c left. only c told left);
   unwritten = λ told nothing. refl;
 }
@@ -37,28 +38,25 @@ of_all status (inr (inr is)) = inr (inr (inr (inr (inl is))))
 module _ {S F T : Type 0} (source : S → SourceView) (shelf : F → ShelfView) (station : T → StationView) (s : S) (f : F) (old new : T) where
   pub ran_unopened : (status : ℕ) → (status ≡ 3) ⊎ (status ≡ 5) ⊎ (status ≡ 6) → (shelf f).faults < 2 ^ 64 → IsOpening (station old) (station new)
       → ((t : ℕ) (c : Outcome) → IsTrue (station new).is_told → t ≤ (station new).moment → Leaves (station new) c → (station new).left_since t c)
-      → (status ≡ 6 → IsTrue (station old).is_told → mirror_in (station old).bytes ≡ None)
+      → (status ≡ 6 → IsTrue (station old).is_told → (gaz : Gazetteer) → Mirrors (station old).bytes gaz → ⊥)
       → (status ≡ 3 → RisesOnce (station old).faults (station new).faults) → (status ≢ 3 → (station new).faults ≡ (station old).faults)
       → ServeRan source shelf station s s f f old new status
   ran_unopened status why fits opening counts none failed kept =
-      let first = state_in (station old).bytes in
       let printed = same_printed (station old) (station new) opening.told opening.printed in
       let unopened : IsUnopened s s f f (station old) (station new) status = record { why = why; source = refl; shelf = refl; printed = printed } in
       record {
-        first = first;
-        first_is = λ told. refl;
-        answers = always _ (λ files.
-            answered first files (left_of (source s)) (left_of (source s)) (source s).faults (source s).faults (shelf f).faults (shelf f).faults (station old) (station new) (IsUnopened s s f f (station old) (station new) status) status
-            (run_unopened first files (left_of (source s)) (shelf f).faults (station old) (station new) status fits why printed
-            (λ told holds. ends_early files first.gaz (station old) (station new) status (leaves_weaker (station old) (station new) _ _ (λ c found. found_still (station old) first.gaz c holds found) (opening.moments told)) (opening.printed told) (λ t c le leaves. counts t c (still told) le leaves))
+        answers = λ told shelf_told first mirrors.
+            answered first (left_of (source s)) (left_of (source s)) (source s).faults (source s).faults (shelf f) (shelf f) (station old) (station new) (IsUnopened s s f f (station old) (station new) status) status
+            (run_unopened first (left_of (source s)) (shelf f) (station old) (station new) status fits why printed
+            (λ told holds. ends_early first.gaz (station old) (station new) status (leaves_weaker (station old) (station new) _ _ (λ c found. found_still (station old) first.gaz c holds found) (opening.moments told)) (opening.printed told) (λ t c le leaves. counts t c (still told) le leaves))
             (λ told nothing. record { bytes = (opening.untouched told nothing).bytes; writes = opening.unwritten told nothing }))
-            (λ told. leaves_weaker (station old) (station new) _ _ (λ c found. inl found) (opening.moments told)) (inl unopened) failed (λ is. no_status status 4 why (inr refl) is) (of_all status why));
+            (λ told. leaves_weaker (station old) (station new) _ _ (λ c found. inl found) (opening.moments told)) (inl unopened) failed (λ is. no_status status 4 why (inr refl) is) (of_all status why);
+        failures = tells_unopened (shelf f) (station old) (station new) status fits printed;
         none = none;
-        undefined = λ told is. unopened;
         unopened = λ is. unopened;
         emptied = λ is. no_status status 0 why (inl (omega arith)) is;
         taken = taken_nothing 65536 (left_of (source s));
-        same = record { told = refl; files = refl };
+        shelf_told = refl;
         numbers = inl (λ n. refl);
         station_failed = failed;
         station_kept = kept;

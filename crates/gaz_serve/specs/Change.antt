@@ -1,6 +1,6 @@
 -- What a load or a day comes to, in the program.
 use Rattle.std.specs.Prelude.{◌≡◌, ℕ, ⊤, List, [], ◌∷◌, Some, None, IfSome, Result, Ok, Err, IsSome}
-use Rattle.gaz_outside.specs.Outside.{ShelfView, RisesOnce, SameNumbers, OpensNumber, files_of}
+use Rattle.gaz_outside.specs.Outside.{ShelfView, RisesOnce, SameFiles, FindsFiles, SameNumbers, NoneOpen, OpensNumber, files_of}
 use Rattle.gaz_num.specs.declared.words.FileName.{FileName}
 use Rattle.gaz_num.specs.Words.{file_text}
 use Rattle.gaz_num.specs.Refusal.{Refusal, not_loaded, sequence, absent, shelf, too_long, malformed, full, memory}
@@ -50,19 +50,15 @@ abbrev pub BlamesReached : {A : Type 0} → Files → List FileName → Result A
 BlamesReached files names (Err (Shelf file)) = IsReached files file names
 BlamesReached files names other = ⊤
 
--- No number is open.
-abbrev pub NoneOpen : ShelfView → Type 0
-NoneOpen view = (n : ℕ) → view.opened n ≡ None
-
--- Where files were to be opened, no number is open at the end. Else the numbers are as they were.
+-- Where files were to be opened, no number is open at the end, and the shelf may have found others. Else it is as it was.
 abbrev pub Closes : List FileName → ShelfView → ShelfView → Type 0
-Closes [] old new = SameNumbers old new
-Closes (name ∷ names) old new = NoneOpen new
+Closes [] old new = SameNumbers old new × SameFiles old new
+Closes (name ∷ names) old new = NoneOpen new × FindsFiles old new
 
 -- A number was given for the file, or the file is absent, or the shelf failed at it.
 abbrev pub Opened : FileName → ShelfView → ShelfView → Result ℕ ChangeFault → Type 0
-Opened name old new (Ok number) = OpensNumber (file_text name) old new number × IfSome (files_of old) (λ files. IsSome (files (file_text name)))
-Opened name old new (Err (Absent file)) = (file ≡ name) × SameNumbers old new × IfSome (files_of old) (λ files. files (file_text name) ≡ None)
+Opened name old new (Ok number) = OpensNumber (file_text name) old new number × IfSome (files_of new) (λ files. IsSome (files (file_text name)))
+Opened name old new (Err (Absent file)) = (file ≡ name) × SameNumbers old new × IfSome (files_of new) (λ files. files (file_text name) ≡ None)
 Opened name old new (Err (Shelf file)) = (file ≡ name) × SameNumbers old new
 Opened name old new (Err other) = ⊥
 

@@ -1,23 +1,25 @@
 -- What one request does, in the program.
-use Rattle.std.specs.Prelude.{◌⊎◌, ⊤, ℕ, List, Result, Ok, Err}
-use Rattle.gaz_outside.specs.Outside.{ShelfView, StationView}
+use Rattle.std.specs.Prelude.{◌⊎◌, ⊤, ℕ, List, Option, Some, None, Result, Ok, Err}
+use Rattle.gaz_outside.specs.Outside.{ShelfView, StationView, Prints}
+use Rattle.gaz_num.specs.declared.words.FileName.{FileName}
 use Rattle.gaz_num.specs.Refusal as refusal
 use Rattle.gaz_plain.specs.Gazetteer.{Gazetteer}
 use Rattle.gaz_plain.specs.Load.{Files}
 use Rattle.gaz_reply.specs.declared.reply.Done.{Done}
-use Rattle.gaz_reply.specs.Reply.{refused}
+use Rattle.gaz_reply.specs.Reply.{Reply, done, rows, refused, reply_text}
 use Rattle.gaz_serve.specs.declared.change.ChangeFault.{ChangeFault}
-use Rattle.gaz_serve.specs.Change.{IsUnblamed, FailedAt, refusal_by}
+use Rattle.gaz_serve.specs.Change.{IsUnblamed, FailedAt, Closes, refusal_by}
 use Rattle.gaz_turns.specs.Turns.{State, Answer, made, same_state, Verdict, plain, memory, shelf, MayBe, MayStarve, IsReached, opens, answer_to, answer_by}
 use Rattle.gaz_turns.specs.Steps.{IsGiven}
 use Rattle.gaz_words.specs.declared.request.Request.{Request}
+use Rattle.gaz_words.specs.Grammar.{request_in}
 
 -- What a change made is stored and told, or memory was wanting to store it; or it is told why the change is refused.
-abbrev pub Finishes : {A E : Type 0} → Done → Result Gazetteer ChangeFault → State → State → StationView → StationView → Result A E → Type 0
-Finishes change (Ok gaz) state state_now old new result =
-    IsGiven (made change gaz) state state_now old new result
-    ⊎ IsGiven (same_state state (refused refusal.memory)) state state_now old new result
-Finishes change (Err fault) state state_now old new result = IsGiven (same_state state (refused (refusal_by fault))) state state_now old new result
+abbrev pub Finishes : {A E : Type 0} → Done → Result Gazetteer ChangeFault → State → StationView → StationView → Result A E → Type 0
+Finishes change (Ok gaz) state old new result =
+    IsGiven (made change gaz) state old new result
+    ⊎ IsGiven (same_state state (refused refusal.memory)) state old new result
+Finishes change (Err fault) state old new result = IsGiven (same_state state (refused (refusal_by fault))) state old new result
 
 -- The shelf failed once, at the file of the verdict, or didn't fail.
 abbrev pub IsBlamed : Verdict → ShelfView → ShelfView → Type 0
@@ -38,15 +40,42 @@ MayMeet memory state files request = MayStarve (Ok request)
 MayMeet (shelf file) state files request = IsReached files file (opens state (Ok request))
 
 -- A request that was read is met by a verdict that it may have, and this answer is given.
-pub record Meets {A E : Type 0} (files : Files) (request : Request) (state state_now : State) (shelf shelf_now : ShelfView) (station station_now : StationView) (result : Result A E) : Type 0 where
+pub record Meets {A E : Type 0} (files : Files) (request : Request) (state : State) (shelf shelf_now : ShelfView) (station station_now : StationView) (result : Result A E) : Type 0 where
   pub verdict : Verdict
   pub may : MayMeet verdict state files request
   pub blamed : IsBlamed verdict shelf shelf_now
-  pub given : IsGiven (answer_of verdict state files request) state state_now station station_now result
+  pub given : IsGiven (answer_of verdict state files request) state station station_now result
 
--- One request is one step: it is met by a verdict that it may have, and this answer is given.
-pub record OneStep {A E : Type 0} (files : Files) (line : List ℕ) (state state_now : State) (shelf shelf_now : ShelfView) (station station_now : StationView) (result : Result A E) : Type 0 where
+-- One request is one step from the state, with the files that the shelf has behind it: it is met by a verdict that it may have,
+-- and this answer is given. Behind it no file is open, where it opens any.
+pub record OneStep {A E : Type 0} (line : List ℕ) (state : State) (shelf shelf_now : ShelfView) (station station_now : StationView) (result : Result A E) : Type 0 where
   pub verdict : Verdict
-  pub may : MayBe verdict state files line
+  pub may : MayBe verdict state shelf_now.files line
   pub blamed : IsBlamed verdict shelf shelf_now
-  pub given : IsGiven (answer_by verdict state files line) state state_now station station_now result
+  pub closes : Closes (opens state (request_in line)) shelf shelf_now
+  pub given : IsGiven (answer_by verdict state shelf_now.files line) state station station_now result
+
+-- the file of which a reply says that the shelf failed at it
+abbrev pub shelf_file : Reply → Option FileName
+shelf_file (done change) = None
+shelf_file (rows lines) = None
+shelf_file (refused (refusal.request word)) = None
+shelf_file (refused refusal.not_loaded) = None
+shelf_file (refused (refusal.sequence have)) = None
+shelf_file (refused (refusal.absent file)) = None
+shelf_file (refused (refusal.shelf file)) = Some file
+shelf_file (refused (refusal.too_long file)) = None
+shelf_file (refused (refusal.malformed file line reason)) = None
+shelf_file (refused (refusal.full file line table)) = None
+shelf_file (refused refusal.memory) = None
+
+-- The shelf failed once, at this file, or didn't fail where there is none.
+abbrev pub FailedIf : Option FileName → ShelfView → ShelfView → Type 0
+FailedIf (Some file) old new = FailedAt file old new
+FailedIf None old new = IsUnblamed old new
+
+-- A reply is printed, and it says of the shelf what is so. This holds over any shelf.
+pub record TellsShelf {A E : Type 0} (shelf shelf_now : ShelfView) (station station_now : StationView) (result : Result A E) : Type 0 where
+  pub reply : Reply
+  pub printed : Prints (reply_text reply) station station_now result
+  pub failed : FailedIf (shelf_file reply) shelf shelf_now

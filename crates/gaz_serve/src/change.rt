@@ -1,6 +1,6 @@
 //! Loads and days: the files of a request are opened in order, and their lines are folded into a gazetteer.
 ghost use Rattle.std.specs.Prelude.{◌≡◌, ◌^◌, ◌∷◌, [], ℕ, Some, None, Ok, IsSome, IfOk, IfErr, IfSome, OnOk};
-ghost use Rattle.gaz_outside.specs.Outside.{SameFiles, SameNumbers, files_of, bytes_of};
+ghost use Rattle.gaz_outside.specs.Outside.{FindsFiles, SameFiles, SameNumbers, files_of, bytes_of};
 ghost use Rattle.gaz_num.specs.Words.{file_text};
 ghost use Rattle.gaz_lines.specs.Cutter.{line_limit_of, file_limit_of};
 ghost use Rattle.gaz_plain.specs.Fold.{fold};
@@ -71,7 +71,7 @@ impl ChangeFault {
 pub(crate) fn open_file<F: Shelf>(shelf: &mut F, name: &FileName) -> Result<u64, ChangeFault>
     ensures opened { Opened name.now (F.view shelf.old) (F.view shelf.new) result }
     ensures blamed { Blamed (F.view shelf.old) (F.view shelf.new) result }
-    ensures same { SameFiles (F.view shelf.old) (F.view shelf.new) }
+    ensures files { FindsFiles (F.view shelf.old) (F.view shelf.new) }
 {
     let mut bytes = [0; 48];
     let size = write_file_name(*name, &mut bytes);
@@ -133,11 +133,11 @@ pub(crate) fn loaded<F: Shelf>(
 ) -> Result<PlainGaz, ChangeFault>
     requires line_limit { line_limit_of cutter.old ≡ 65535 }
     requires file_limit { file_limit_of cutter.old ≡ 2 ^ 40 }
-    ensures gives { IfSome (files_of (F.view shelf.old)) (λ files. Gives (load files date) result) }
+    ensures gives { IfSome (files_of (F.view shelf.new)) (λ files. Gives (load files date) result) }
     ensures dated { IfOk result (λ gaz. IsSome gaz.date) }
-    ensures reached { IfSome (files_of (F.view shelf.old)) (λ files. BlamesReached files load_files result) }
+    ensures reached { IfSome (files_of (F.view shelf.new)) (λ files. BlamesReached files load_files result) }
     ensures blamed { Blamed (F.view shelf.old) (F.view shelf.new) result }
-    ensures same { SameFiles (F.view shelf.old) (F.view shelf.new) }
+    ensures files { FindsFiles (F.view shelf.old) (F.view shelf.new) }
     ensures line_limit { line_limit_of cutter.new ≡ line_limit_of cutter.old }
     ensures file_limit { file_limit_of cutter.new ≡ file_limit_of cutter.old }
 {
@@ -173,11 +173,11 @@ pub(crate) fn next_gazetteer<F: Shelf>(
     requires sequence { in_sequence gaz.now.date date ≡ Ok date }
     requires line_limit { line_limit_of cutter.old ≡ 65535 }
     requires file_limit { file_limit_of cutter.old ≡ 2 ^ 40 }
-    ensures gives { IfSome (files_of (F.view shelf.old)) (λ files. Gives (day gaz.now files date) result) }
+    ensures gives { IfSome (files_of (F.view shelf.new)) (λ files. Gives (day gaz.now files date) result) }
     ensures dated { IfOk result (λ gaz. IsSome gaz.date) }
-    ensures reached { IfSome (files_of (F.view shelf.old)) (λ files. BlamesReached files (day_files date) result) }
+    ensures reached { IfSome (files_of (F.view shelf.new)) (λ files. BlamesReached files (day_files date) result) }
     ensures blamed { Blamed (F.view shelf.old) (F.view shelf.new) result }
-    ensures same { SameFiles (F.view shelf.old) (F.view shelf.new) }
+    ensures files { FindsFiles (F.view shelf.old) (F.view shelf.new) }
     ensures line_limit { line_limit_of cutter.new ≡ line_limit_of cutter.old }
     ensures file_limit { file_limit_of cutter.new ≡ file_limit_of cutter.old }
 {

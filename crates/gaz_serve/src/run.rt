@@ -1,14 +1,15 @@
 //! A run of requests, one line of the source after another.
 ghost use Rattle.std.specs.Prelude.{◌≡◌, ◌≢◌, ◌⊎◌, ◌^◌, ◌∷◌, [], IsTrue, IfOk, IfSome, codes, vec_len};
-ghost use Rattle.gaz_outside.specs.Outside.{HasCause, Prints, RisesOnce, SameFiles, SameNumbers, left_of, files_of};
+ghost use Rattle.gaz_outside.specs.Outside.{HasCause, Prints, RisesOnce, SameNumbers, NoneOpen, left_of};
 ghost use Rattle.gaz_outside.specs.Station.{AreasStay};
 ghost use Rattle.gaz_num.specs.Refusal.{request};
 ghost use Rattle.gaz_lines.specs.Cutter.{line_limit_of, file_limit_of, IsFresh};
-ghost use Rattle.gaz_open.specs.Fits.{Fits};
+ghost use Rattle.gaz_open.specs.Content.{Mirrors};
 ghost use Rattle.gaz_reply.specs.Reply.{reply_text, refused};
 ghost use Rattle.gaz_reply.specs.Tells.{MayBeCut};
-ghost use Rattle.gaz_serve.specs.Change.{NoneOpen};
-ghost use Rattle.gaz_serve.specs.Ran.{RunAnswers};
+ghost use Rattle.gaz_turns.specs.Turns.{State};
+ghost use Rattle.gaz_serve.specs.Session.{IsOpen};
+ghost use Rattle.gaz_serve.specs.Ran.{RunAnswers, TellShelf};
 ghost use Rattle.gaz_serve.specs.Serve.{Taken};
 
 use crate::session::Session;
@@ -40,15 +41,16 @@ pub(crate) fn run<S: Source, F: Shelf, T: Station>(
     station: &mut T,
     cutter: &mut LineCutter,
 ) -> u8
-    requires fits { IsTrue (T.view station.old).is_told → Fits session.old.side (T.view station.old) }
+    requires open { IsOpen session.old (T.view station.old) }
     requires line_limit { line_limit_of cutter.old ≡ 4096 }
     requires file_limit { file_limit_of cutter.old ≡ 2 ^ 40 }
     requires fresh { IsFresh cutter.old }
-    ensures answers { IfSome (files_of (F.view shelf.old)) (λ files.
-        RunAnswers session.old.state files (left_of (S.view source.old)) (left_of (S.view source.new)) (F.view shelf.old).faults (F.view shelf.new).faults (T.view station.old) (T.view station.new) result) }
+    ensures answers { IsTrue (T.view station.old).is_told → IsTrue (F.view shelf.old).is_told → (first : State) → Mirrors (T.view station.old).bytes first.gaz
+        → RunAnswers first (left_of (S.view source.old)) (left_of (S.view source.new)) (F.view shelf.old) (F.view shelf.new) (T.view station.old) (T.view station.new) result }
+    ensures failures { TellShelf (F.view shelf.old) (F.view shelf.new) (T.view station.old) (T.view station.new) result }
     ensures emptied { result ≡ 0 → IfSome (left_of (S.view source.new)) (λ bytes. bytes ≡ []) }
     ensures taken { Taken 65536 (left_of (S.view source.old)) (left_of (S.view source.new)) }
-    ensures same { SameFiles (F.view shelf.old) (F.view shelf.new) }
+    ensures shelf_told { (F.view shelf.new).is_told ≡ (F.view shelf.old).is_told }
     ensures numbers { SameNumbers (F.view shelf.old) (F.view shelf.new) ⊎ NoneOpen (F.view shelf.new) }
     ensures station { result ≡ 3 → RisesOnce (T.view station.old).faults (T.view station.new).faults }
     ensures station_kept { result ≢ 3 → (T.view station.new).faults ≡ (T.view station.old).faults }

@@ -1,27 +1,27 @@
 //! A session: the gazetteer of an open mirror, the side of its text, and the buffer by which files are read.
-ghost use Rattle.std.specs.Prelude.{◌≡◌, ◌⊎◌, ◌∷◌, [], Ok, None, IsTrue, IfOk, IfErr, IfSome, IsErr, IsSome, OnOk, option_to_list};
-ghost use Rattle.gaz_outside.specs.Outside.{HasCause, SameFiles, files_of};
+ghost use Rattle.std.specs.Prelude.{◌≡◌, ◌⊎◌, ◌∷◌, [], Ok, None, IsTrue, IfOk, IfErr, IfSome, IsSome, OnOk, option_to_list};
+ghost use Rattle.gaz_outside.specs.Outside.{HasCause, files_of};
 ghost use Rattle.gaz_outside.specs.Station.{Confined, LeavesOnly};
 ghost use Rattle.gaz_num.specs.Refusal.{memory};
 ghost use Rattle.gaz_num.specs.declared.words.Table.TheVariants.{Rows};
-ghost use Rattle.gaz_plain.specs.Gazetteer.{line_with};
+ghost use Rattle.gaz_plain.specs.Gazetteer.{Gazetteer, line_with};
 ghost use Rattle.gaz_plain.specs.Load.{load, day, load_files, in_sequence};
 ghost use Rattle.gaz_redo.specs.Slots.{SameBytes};
-ghost use Rattle.gaz_open.specs.Content.{mirror_in};
+ghost use Rattle.gaz_open.specs.Content.{Mirrors};
 ghost use Rattle.gaz_open.specs.Holds.{AllHold, IsFound};
-ghost use Rattle.gaz_open.specs.Fits.{Fits};
-ghost use Rattle.gaz_open.specs.Opens.{FailsOnce, NothingToRedo};
+ghost use Rattle.gaz_open.specs.Opens.{FailsOnce, HasLog, HasNoLog, NothingToRedo};
 ghost use Rattle.gaz_reply.specs.Reply.{refused, rows};
 ghost use Rattle.gaz_turns.specs.Turns.{day_opens, if_loaded, same_state, made};
 ghost use Rattle.gaz_turns.specs.Steps.{IsGiven};
-ghost use Rattle.gaz_serve.specs.Change.{Blamed, BlamesReached, Closes, Gives, NoneOpen};
+ghost use Rattle.gaz_serve.specs.Change.{Blamed, BlamesReached, Closes, Gives};
+ghost use Rattle.gaz_serve.specs.Session.{IsOpen, state_of};
 ghost use Rattle.gaz_serve.specs.Step.{Finishes};
 
 use crate::change::{ChangeFault, follow, loaded, next_gazetteer};
 use crate::tell::tell_found;
 use gaz_lines::LineCutter;
 use gaz_num::Day;
-use gaz_open::{OpenFault, open_plain};
+use gaz_open::{OpenFault, Place, open_plain};
 use gaz_outside::{Failed, Shelf, Station};
 use gaz_page::Side;
 use gaz_plain::PlainGaz;
@@ -53,7 +53,7 @@ impl Model for Session {
 
     ghost Value = { SessionView };
 
-    ghost view = { λ session. record { state = record { gaz = session.gaz }; side = session.side } };
+    ghost view = { λ session. record { lines = session.gaz; side = session.side } };
 
     ghost invariant = { λ session. (line_limit_of session.cutter ≡ 65535) × (file_limit_of session.cutter ≡ 2 ^ 40) };
 }
@@ -62,18 +62,18 @@ impl Session {
     /// Opens the mirror: reserves the buffer for files, syncs the areas, recovers from a stop, and reads the text. It prints
     /// nothing.
     pub fn start<T: Station>(alloc: Global, station: &mut T) -> Result<Session, OpenFault>
-        // The session stands for the gazetteer of the areas. The gate is closed then, and Root says where the text is.
-        ensures state { IfOk result (λ session. IsTrue (T.view station.old).is_told → mirror_in (T.view station.old).bytes ≡ Some session.state.gaz) }
-        ensures fits { IfOk result (λ session. IsTrue (T.view station.old).is_told → Fits session.side (T.view station.new)) }
-        ensures holds { IfOk result (λ session. IsTrue (T.view station.old).is_told → AllHold (T.view station.new) session.state.gaz) }
+        // The session has open what the areas mirror. Nothing is pending then: all outcomes have what the areas mirrored before.
+        ensures open { IfOk result (λ session. IsOpen session (T.view station.new)) }
+        ensures holds { OnOk result (IsTrue (T.view station.old).is_told → (gaz : Gazetteer) → Mirrors (T.view station.old).bytes gaz → AllHold (T.view station.new) gaz) }
 
         // A stop at any moment leaves a gazetteer that some outcome had when it began: the one that was there, if all had one.
         ensures moments { IsTrue (T.view station.old).is_told → LeavesOnly (T.view station.old) (T.view station.new) (IsFound (T.view station.old)) }
         ensures printed { IsTrue (T.view station.old).is_told → (T.view station.new).printed ≡ (T.view station.old).printed }
 
-        // It says that there is no mirror only where the areas have no gazetteer, and then none opens.
-        ensures none { IfErr result (λ why. IsTrue (T.view station.old).is_told → (place : _) → why ≡ OpenFault.NotAMirror place → mirror_in (T.view station.old).bytes ≡ None) }
-        ensures undefined { IsTrue (T.view station.old).is_told → mirror_in (T.view station.old).bytes ≡ None → IsErr result }
+        // It says that there is no mirror only where the areas have no gazetteer, and which of the log and Root is to blame.
+        ensures none { IfErr result (λ why. IsTrue (T.view station.old).is_told → (place : _) → why ≡ OpenFault.NotAMirror place → (gaz : Gazetteer) → Mirrors (T.view station.old).bytes gaz → ⊥) }
+        ensures log { IfErr result (λ why. IsTrue (T.view station.old).is_told → why ≡ OpenFault.NotAMirror Place.Log → HasNoLog (T.view station.old).bytes) }
+        ensures root { IfErr result (λ why. IsTrue (T.view station.old).is_told → why ≡ OpenFault.NotAMirror Place.Root → HasLog (T.view station.old).bytes) }
 
         // Where nothing is to be redone, nothing is written.
         ensures untouched { IsTrue (T.view station.old).is_told → NothingToRedo (T.view station.old).bytes → Confined SameBytes (T.view station.old) (T.view station.new) }
@@ -103,12 +103,11 @@ impl Session {
         date: Day,
     ) -> Result<PlainGaz, ChangeFault>
         ensures kept { self.new ≡ self.old }
-        ensures gives { IfSome (files_of (F.view shelf.old)) (λ files. Gives (load files date) result) }
+        ensures gives { IfSome (files_of (F.view shelf.new)) (λ files. Gives (load files date) result) }
         ensures dated { IfOk result (λ gaz. IsSome gaz.date) }
-        ensures reached { IfSome (files_of (F.view shelf.old)) (λ files. BlamesReached files load_files result) }
+        ensures reached { IfSome (files_of (F.view shelf.new)) (λ files. BlamesReached files load_files result) }
         ensures blamed { Blamed (F.view shelf.old) (F.view shelf.new) result }
-        ensures closed { NoneOpen (F.view shelf.new) }
-        ensures same { SameFiles (F.view shelf.old) (F.view shelf.new) }
+        ensures closes { Closes load_files (F.view shelf.old) (F.view shelf.new) }
     {
         let made = loaded(self.alloc, shelf, &mut self.cutter, date);
         shelf.close_all();
@@ -122,12 +121,11 @@ impl Session {
         date: Day,
     ) -> Result<PlainGaz, ChangeFault>
         ensures kept { self.new ≡ self.old }
-        ensures gives { IfSome (files_of (F.view shelf.old)) (λ files. Gives (day self.old.state.gaz files date) result) }
+        ensures gives { IfSome (files_of (F.view shelf.new)) (λ files. Gives (day self.old.lines files date) result) }
         ensures dated { IfOk result (λ gaz. IsSome gaz.date) }
-        ensures reached { IfSome (files_of (F.view shelf.old)) (λ files. BlamesReached files (day_opens (in_sequence self.old.state.gaz.date date)) result) }
+        ensures reached { IfSome (files_of (F.view shelf.new)) (λ files. BlamesReached files (day_opens (in_sequence self.old.lines.date date)) result) }
         ensures blamed { Blamed (F.view shelf.old) (F.view shelf.new) result }
-        ensures closes { Closes (day_opens (in_sequence self.old.state.gaz.date date)) (F.view shelf.old) (F.view shelf.new) }
-        ensures same { SameFiles (F.view shelf.old) (F.view shelf.new) }
+        ensures closes { Closes (day_opens (in_sequence self.old.lines.date date)) (F.view shelf.old) (F.view shelf.new) }
     {
         if let Err(fault) = follow(self.gaz.date(), date) {
             return Err(fault);
@@ -145,10 +143,10 @@ impl Session {
         gaz: PlainGaz,
     ) -> Result<(), Failed>
         requires dated { IsSome gaz.date }
-        requires fits { IsTrue (T.view station.old).is_told → Fits self.old.side (T.view station.old) }
-        ensures given { IsGiven (made change gaz) self.old.state self.new.state (T.view station.old) (T.view station.new) result
-            ⊎ IsGiven (same_state self.old.state (refused memory)) self.old.state self.new.state (T.view station.old) (T.view station.new) result }
-        ensures fits { OnOk result (IsTrue (T.view station.old).is_told → Fits self.new.side (T.view station.new)) }
+        requires open { IsOpen self.old (T.view station.old) }
+        ensures given { IsGiven (made change gaz) (state_of self.old) (T.view station.old) (T.view station.new) result
+            ⊎ IsGiven (same_state (state_of self.old) (refused memory)) (state_of self.old) (T.view station.old) (T.view station.new) result }
+        ensures open { OnOk result (IsOpen self.new (T.view station.new)) }
         ensures told { (T.view station.new).is_told ≡ (T.view station.old).is_told }
         ensures cause { HasCause (T.view station.old).faults (T.view station.new).faults result }
     {
@@ -171,9 +169,9 @@ impl Session {
         made: Result<PlainGaz, ChangeFault>,
     ) -> Result<(), Failed>
         requires dated { IfOk made (λ gaz. IsSome gaz.date) }
-        requires fits { IsTrue (T.view station.old).is_told → Fits self.old.side (T.view station.old) }
-        ensures finishes { Finishes change made self.old.state self.new.state (T.view station.old) (T.view station.new) result }
-        ensures fits { OnOk result (IsTrue (T.view station.old).is_told → Fits self.new.side (T.view station.new)) }
+        requires open { IsOpen self.old (T.view station.old) }
+        ensures finishes { Finishes change made (state_of self.old) (T.view station.old) (T.view station.new) result }
+        ensures open { OnOk result (IsOpen self.new (T.view station.new)) }
         ensures told { (T.view station.new).is_told ≡ (T.view station.old).is_told }
         ensures cause { HasCause (T.view station.old).faults (T.view station.new).faults result }
     {
@@ -185,8 +183,8 @@ impl Session {
 
     /// Tells the place with the id, if there is one.
     pub(crate) fn tell_place<T: Station>(&self, station: &mut T, id: u32) -> Result<(), Failed>
-        ensures given { IsGiven (same_state self.now.state (if_loaded self.now.state (rows (option_to_list (line_with Rows (id ∷ []) self.now.state.gaz))))) self.now.state self.now.state (T.view station.old) (T.view station.new) result }
-        ensures fits { IsTrue (T.view station.old).is_told → Fits self.now.side (T.view station.old) → Fits self.now.side (T.view station.new) }
+        ensures given { IsGiven (same_state (state_of self.now) (if_loaded (state_of self.now) (rows (option_to_list (line_with Rows (id ∷ []) self.now.lines))))) (state_of self.now) (T.view station.old) (T.view station.new) result }
+        ensures open { IsOpen self.now (T.view station.old) → IsOpen self.now (T.view station.new) }
         ensures told { (T.view station.new).is_told ≡ (T.view station.old).is_told }
         ensures cause { HasCause (T.view station.old).faults (T.view station.new).faults result }
     {

@@ -1,11 +1,12 @@
 //! One request is one step: it is read, met, and its reply is printed.
-ghost use Rattle.std.specs.Prelude.{◌≡◌, Ok, IsTrue, IfSome, OnOk};
-ghost use Rattle.gaz_outside.specs.Outside.{HasCause, SameFiles, files_of};
-ghost use Rattle.gaz_open.specs.Fits.{Fits};
-ghost use Rattle.gaz_words.specs.Grammar.{request_in};
-ghost use Rattle.gaz_turns.specs.Turns.{opens};
+ghost use Rattle.std.specs.Prelude.{◌≡◌, List, Ok, IsTrue, IfSome, OnOk};
+ghost use Rattle.gaz_outside.specs.Outside.{HasCause, files_of};
+ghost use Rattle.gaz_num.specs.declared.words.FileName.{FileName};
+ghost use Rattle.gaz_open.specs.Content.{Mirrors};
+ghost use Rattle.gaz_turns.specs.Turns.{State, opens};
 ghost use Rattle.gaz_serve.specs.Change.{Closes};
-ghost use Rattle.gaz_serve.specs.Step.{Meets, OneStep};
+ghost use Rattle.gaz_serve.specs.Session.{IsOpen, state_of};
+ghost use Rattle.gaz_serve.specs.Step.{Meets, OneStep, TellsShelf};
 
 use crate::session::Session;
 use gaz_outside::{Failed, Shelf, Station};
@@ -26,11 +27,11 @@ fn answer_request<F: Shelf, T: Station>(
     station: &mut T,
     request: &Request,
 ) -> Result<(), Failed>
-    requires fits { IsTrue (T.view station.old).is_told → Fits session.old.side (T.view station.old) }
-    ensures step { IfSome (files_of (F.view shelf.old)) (λ files. Meets files request.now session.old.state session.new.state (F.view shelf.old) (F.view shelf.new) (T.view station.old) (T.view station.new) result) }
-    ensures fits { OnOk result (IsTrue (T.view station.old).is_told → Fits session.new.side (T.view station.new)) }
-    ensures closes { Closes (opens session.old.state (Ok request.now)) (F.view shelf.old) (F.view shelf.new) }
-    ensures same { SameFiles (F.view shelf.old) (F.view shelf.new) }
+    requires open { IsOpen session.old (T.view station.old) }
+    ensures step { IfSome (files_of (F.view shelf.new)) (λ files. Meets files request.now (state_of session.old) (F.view shelf.old) (F.view shelf.new) (T.view station.old) (T.view station.new) result) }
+    ensures tells { TellsShelf (F.view shelf.old) (F.view shelf.new) (T.view station.old) (T.view station.new) result }
+    ensures open { OnOk result (IsOpen session.new (T.view station.new)) }
+    ensures closes { Closes (opens (state_of session.old) (Ok request.now)) (F.view shelf.old) (F.view shelf.new) }
     ensures told { (T.view station.new).is_told ≡ (T.view station.old).is_told }
     ensures cause { HasCause (T.view station.old).faults (T.view station.new).faults result }
 {
@@ -55,11 +56,19 @@ pub fn answer<F: Shelf, T: Station>(
     station: &mut T,
     line: &[u8],
 ) -> Result<(), EndFault>
-    requires fits { IsTrue (T.view station.old).is_told → Fits session.old.side (T.view station.old) }
-    ensures step { IfSome (files_of (F.view shelf.old)) (λ files. OneStep files line.now session.old.state session.new.state (F.view shelf.old) (F.view shelf.new) (T.view station.old) (T.view station.new) result) }
-    ensures fits { OnOk result (IsTrue (T.view station.old).is_told → Fits session.new.side (T.view station.new)) }
-    ensures closes { Closes (opens session.old.state (request_in line.now)) (F.view shelf.old) (F.view shelf.new) }
-    ensures same { SameFiles (F.view shelf.old) (F.view shelf.new) }
+    requires open { IsOpen session.old (T.view station.old) }
+
+    // Over a shelf and a station that tell what they have: one step of a legal run, from the state that the areas mirror, with
+    // the files that the shelf has behind it.
+    ensures step { IsTrue (T.view station.old).is_told → IsTrue (F.view shelf.old).is_told → (state : State) → Mirrors (T.view station.old).bytes state.gaz
+        → OneStep line.now state (F.view shelf.old) (F.view shelf.new) (T.view station.old) (T.view station.new) result }
+
+    // Over any shelf: the reply says whether it failed, and at which file. No file is open that wasn't.
+    ensures tells { TellsShelf (F.view shelf.old) (F.view shelf.new) (T.view station.old) (T.view station.new) result }
+    ensures closes { (names : List FileName) × Closes names (F.view shelf.old) (F.view shelf.new) }
+
+    // After `Ok` the session has open what the areas mirror then.
+    ensures open { OnOk result (IsOpen session.new (T.view station.new)) }
     ensures told { (T.view station.new).is_told ≡ (T.view station.old).is_told }
     ensures cause { HasCause (T.view station.old).faults (T.view station.new).faults result }
 {

@@ -100,12 +100,12 @@ module _ (side : Option Side) (v0 : StationView) (gaz : Gazetteer) (fits : Fits 
       let root : v0.bytes area.Root ≡ c area.Root = sym (roots ∙ fits.root (from area.Root) (was area.Root)) in
       mirror_closed c (ap is_open marks ∙ shut)
       ∙ gaz_of_named side c from (subst (λ (b : List ℕ). Names side b) root fits.names) roots (λ s is. same (side_area s) (text_other side s is))
-      ∙ sym (mirror_closed from shut) ∙ holds o leaves
+      ∙ sym (mirror_closed from shut) ∙ (holds o leaves).is
 
   pub while_written : (next : Gazetteer) (v1 : StationView) → Confined (AnyIn (side_area (idle_of side))) v0 v1 → LeavesOnly v0 v1 (IsOldOrNext gaz next v0)
   while_written next v1 run =
       leaves_weaker v0 v1 _ _
-      (λ c near. (inl (idle_is_free (λ a. (near.areas a).0) c.areas (λ a. (near.areas a).1) (λ a other. (near.areas a).2 other)), near.text))
+      (λ c near. (inl (record { is = idle_is_free (λ a. (near.areas a).0) c.areas (λ a. (near.areas a).1) (λ a other. (near.areas a).2 other) }), near.text))
       run.moments
 
 -- after the text is written and synced
@@ -145,9 +145,9 @@ module _ (side : Option Side) (day : ℕ) (next : Gazetteer) (image : List ℕ) 
         let old = idle_is_free side v0 gaz fits holds before from (λ a. (run.outcomes a (from a) (either.was a)).1) (λ a other. (run.outcomes a (from a) (either.was a)).2 other) in
         let shut : is_open (from area.Mark) ≡ false = ap is_open (ready_then.mark (from area.Mark) (either.was area.Mark)) ∙ ready_then.closed in (
           ⊎_elim
-              (λ same. inl (of_contents c.areas (three from) same ∙ sym (mirror_closed from shut) ∙ old))
-              (λ new. inr (of_contents c.areas (laid (root_slot image ∷ []) (three from)) new
-              ∙ next_read (laid (root_slot image ∷ []) (three from)) (from area.Root) refl (laid_side (idle_of side) (three from) ∙ idle_now from either.was)))
+              (λ same. inl (record { is = of_contents c.areas (three from) same ∙ sym (mirror_closed from shut) ∙ old }))
+              (λ new. inr (record { is = of_contents c.areas (laid (root_slot image ∷ []) (three from)) new
+              ∙ next_read (laid (root_slot image ∷ []) (three from)) (from area.Root) refl (laid_side (idle_of side) (three from) ∙ idle_now from either.was) }))
               either.content,
           either.text ∙ run.printed,
         )
@@ -173,8 +173,10 @@ module _ (side : Option Side) (day : ℕ) (next : Gazetteer) (image : List ℕ) 
       all_hold_next c leaves =
           let shut : is_open (c.areas area.Mark) ≡ false = ap is_open (done.ready.mark (c.areas area.Mark) (leaves.areas area.Mark)) ∙ done.ready.closed in
           let root = done.outcomes area.Root (c.areas area.Root) (omega arith) (leaves.areas area.Root) in
-          mirror_closed c.areas shut
-          ∙ next_read (three c.areas) root.0 root.2 (side_three (idle_of side) c.areas ∙ idle_after (c.areas (side_area (idle_of side))) (leaves.areas (side_area (idle_of side))))
+          record {
+            is = mirror_closed c.areas shut
+            ∙ next_read (three c.areas) root.0 root.2 (side_three (idle_of side) c.areas ∙ idle_after (c.areas (side_area (idle_of side))) (leaves.areas (side_area (idle_of side))));
+          }
 
       bytes_after : (s : Side) → v2.bytes (side_area s) ≡ v1.bytes (side_area s)
       bytes_after Left = done.left

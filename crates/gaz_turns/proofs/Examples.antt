@@ -6,13 +6,11 @@ use Rattle.std.specs.Fmt.{digits}
 use lib.Utf8.{encode}
 use Rattle.jiff_core.specs.Calendar.{days_from_civil, days_of_years, days_of_months, day_count}
 use Rattle.gaz_num.specs.Check.{reason_against}
+use Rattle.gaz_outside.specs.declared.station.Area.{Area}
 use Rattle.gaz_outside.specs.Station.{StationView}
 use Rattle.gaz_plain.specs.Gazetteer.{Gazetteer, empty, after_line}
 use Rattle.gaz_plain.specs.Load.{Files, load, day}
-use Rattle.gaz_plain.proofs.TextTests.{gazetteer_told}
-use Rattle.gaz_page.specs.declared.page.Side.TheVariants.{Left}
-use Rattle.gaz_open.specs.Content.{IsKept, written}
-use Rattle.gaz_open.proofs.Back.{written_back}
+use Rattle.gaz_open.specs.Content.{Mirrors}
 use Rattle.gaz_words.specs.Grammar.{request_in}
 use Rattle.gaz_reply.specs.Reply.{acks}
 use Rattle.gaz_turns.specs.Turns.{Turn, Verdict, plain, memory}
@@ -21,12 +19,12 @@ use Rattle.gaz_turns.specs.Head.{Course, IsStop, after_changes, replies_of}
 abbrev no_rows : Files
 no_rows name = if bytes_eq name (codes "allCountries.txt") then Some [] else None
 
-abbrev turn : Verdict → List ℕ → Turn
-turn verdict line = record { line = line; verdict = verdict }
+abbrev turn : Files → Verdict → List ℕ → Turn
+turn files verdict line = record { line = line; verdict = verdict; files = files }
 
 -- a load for which memory is wanting, a load, a get
 abbrev course : Course
-course = record { first = record { gaz = empty }; files = no_rows; turns = turn memory (codes "load 0000-01-06") ∷ turn plain (codes "load 0000-01-06") ∷ turn plain (codes "get 1") ∷ [] }
+course = record { first = record { gaz = empty }; turns = turn no_rows memory (codes "load 0000-01-06") ∷ turn no_rows plain (codes "load 0000-01-06") ∷ turn no_rows plain (codes "get 1") ∷ [] }
 
 abbrev text : List ℕ
 text = codes "refused memory\nok load 0000-01-06\nok 0\n"
@@ -69,7 +67,7 @@ abbrev empty_files : Files
 empty_files name = Some []
 
 abbrev two_days : Course
-two_days = record { first = record { gaz = empty }; files = empty_files; turns = turn plain (codes "load 0000-01-06") ∷ turn plain (codes "day 0000-01-08") ∷ turn plain (codes "day 0000-01-07") ∷ turn plain (codes "day 0000-01-08") ∷ [] }
+two_days = record { first = record { gaz = empty }; turns = turn empty_files plain (codes "load 0000-01-06") ∷ turn empty_files plain (codes "day 0000-01-08") ∷ turn empty_files plain (codes "day 0000-01-07") ∷ turn empty_files plain (codes "day 0000-01-08") ∷ [] }
 
 abbrev text_of_days : List ℕ
 text_of_days = codes "ok load 0000-01-06\nrefused sequence 0000-01-06\nok day 0000-01-07\nok day 0000-01-08\n"
@@ -86,15 +84,12 @@ days_acknowledged : acks text_of_days ≡ 3
 unfolding days_from_civil day_count days_of_years days_of_months
 days_acknowledged = refl
 
-kept : IsKept 5 loaded
-kept = record { is_gazetteer = ((gazetteer_told loaded).0 refl).1; dated = refl; real = omega arith }
-
 -- A stop inside the load's commit, behind any text at entry: the refusal is printed, the acknowledgement isn't, and the areas have the load.
-inside_commit : (v : StationView) → IsStop course v (record { areas = written Left 5 loaded (λ area. []); text = v.printed ++ codes "refused memory\n" })
+inside_commit : (v : StationView) (areas : Area → List ℕ) → Mirrors areas loaded → IsStop course v (record { areas = areas; text = v.printed ++ codes "refused memory\n" })
 unfolding request_in load after_line reason_against is_utf8 chars encode digits days_from_civil day_count days_of_years days_of_months
-inside_commit v = record {
+inside_commit v areas mirrors = record {
   text = codes "refused memory\n";
   printed = refl;
   front = (15, omega (arith, ap length whole), ap (λ (t : List ℕ). take 15 t) (sym whole));
-  holds = record { gaz = loaded; content = written_back Left 5 loaded (λ area. []) kept refl; one_of = inr first_change };
+  holds = record { gaz = loaded; content = mirrors; one_of = inr first_change };
 }

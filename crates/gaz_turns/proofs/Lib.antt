@@ -1,5 +1,6 @@
 mod Examples
 pub mod Counted
+pub mod Filed
 pub mod Marks
 pub mod Replied
 pub mod Stored

@@ -1,25 +1,18 @@
--- A row that the check accepts has a tab. With the cut at each LF this is what a says of stored lines.
-use Rattle.std.proofs.Common.{◌≡◌, ℕ, Bool, true, false, cond, true≢false, List, [], ◌∷◌, length, refl, ap, arith, Option, Some, None, eqb-true, sym, subst}
+-- The lines of a gazetteer are stored lines: a row that the check accepts has a tab, and no LF.
+use Rattle.std.proofs.Common.{◌≡◌, ℕ, Bool, true, false, cond, true≢false, List, [], ◌∷◌, length, refl, ap, arith, Option, Some, None, eqb-true, sym}
+use Rattle.std.proofs.lemmas.List.Elements.{recursion_from_All}
 use Rattle.std.proofs.lemmas.List.Sums.{sum_by-cons}
 use Rattle.std.proofs.lemmas.List.Splits.{length-slice_split}
-use Rattle.std.specs.Prelude.{⊤, not, count_by, if◌then◌else◌, is_some, ◌==◌, nat_le, nat_lt, option_and_then}
+use Rattle.std.specs.Prelude.{not, count_by, if◌then◌else◌, is_some, ◌==◌, nat_le}
 use Rattle.std.specs.List.{AllByRecursion}
 use Rattle.std.specs.Str.{is_utf8}
 use Rattle.gaz_num.specs.declared.words.Kind.TheVariants.{Row}
 use Rattle.gaz_num.specs.declared.words.Reason.{Reason}
 use Rattle.gaz_num.specs.declared.words.Reason.TheVariants.{Length, Utf8, Columns}
+use Rattle.gaz_num.specs.declared.words.Table.TheVariants.{Rows}
 use Rattle.gaz_num.specs.Pieces.{fields}
 use Rattle.gaz_num.specs.Check.{reason_against, first_failing, tests, line_limit}
-use Rattle.gaz_num.specs.Numbers.{some_if}
-use Rattle.gaz_num.specs.Pieces.{ended_lines}
-use Rattle.gaz_outside.specs.declared.station.Area.{Area}
-use Rattle.gaz_plain.specs.Gazetteer.{Gazetteer, IsLine, empty}
-use Rattle.gaz_page.specs.declared.root.PlainRoot.{PlainRoot}
-use Rattle.gaz_page.specs.Root.{root_in}
-use Rattle.gaz_redo.specs.Content.{Contents, content}
-use Rattle.gaz_open.specs.Content.{mirror_in, gaz_in, gaz_of, named_by, text_at, side_bytes, cut_by, fits_root}
-use Rattle.gaz_open.proofs.Back.{row_lines}
-use Rattle.gaz_open.proofs.Parsed.{gazetteer_if}
+use Rattle.gaz_plain.specs.Gazetteer.{Gazetteer, IsGazetteer, IsLine, IsTable}
 use Rattle.gaz_turns.specs.Head.{has_byte, IsStored}
 use Rattle.gaz_turns.proofs.Counted.{or_left, or_right}
 
@@ -57,7 +50,6 @@ row_has_tab line accepted =
         let count = length-slice_split (λ byte. byte == 9) line in
         absurd (omega (arith, none, count, columns))
 
--- what is read of five areas are stored lines
 not_lf : (b : Bool) → not b ≡ true → b ≡ false
 not_lf true h = absurd (true≢false (sym h))
 not_lf false h = refl
@@ -66,31 +58,6 @@ are_stored : (rows : List (List ℕ)) → AllByRecursion (IsLine Row) rows → A
 are_stored [] h = tt
 are_stored (row ∷ rows) h = (record { tab = row_has_tab row h.0.accepted; one_line = not_lf (has_byte 10 row) h.0.one_line }, are_stored rows h.1)
 
-abbrev all_stored : Option Gazetteer → Type 0
-all_stored None = ⊤
-all_stored (Some gaz) = AllByRecursion IsStored gaz.rows
-
-if_stored : (test : Bool) (gaz : Gazetteer) → (test ≡ true → AllByRecursion IsStored gaz.rows) → all_stored (some_if test gaz)
-if_stored true gaz h = h refl
-if_stored false gaz h = tt
-
-of_option : {A : Type 0} (f : A → Option Gazetteer) (o : Option A) → ((a : A) → all_stored (f a)) → all_stored (option_and_then f o)
-of_option f None h = tt
-of_option f (Some a) h = h a
-
-of_either : (test : Bool) (other : Option Gazetteer) → all_stored other → all_stored (if test then Some empty else other)
-of_either true other h = tt
-of_either false other h = h
-
-of_text : (root : PlainRoot) (text : List ℕ) → all_stored (gaz_of root text)
-of_text root text = if_stored (fits_root root text) (cut_by root (ended_lines text)) (λ fits. are_stored (cut_by root (ended_lines text)).rows (row_lines (cut_by root (ended_lines text)) (gazetteer_if root text fits)))
-
-of_contents : (c : Contents) → all_stored (gaz_in c)
-unfolding gaz_in
-of_contents c =
-    of_either (nat_lt (length c.root) 4096) (option_and_then (named_by c) (root_in c.root))
-    (of_option (named_by c) (root_in c.root) (λ root. of_option (gaz_of root) (text_at root.length (side_bytes root.side c)) (of_text root)))
-
-pub read_stored : (areas : Area → List ℕ) (gaz : Gazetteer) → mirror_in areas ≡ Some gaz → AllByRecursion IsStored gaz.rows
-unfolding mirror_in
-read_stored areas gaz is = subst all_stored is (of_option gaz_in (content areas) of_contents)
+-- the lines of a gazetteer are stored lines
+pub read_stored : (gaz : Gazetteer) → IsGazetteer gaz → AllByRecursion IsStored gaz.rows
+read_stored gaz is = let table : IsTable Rows gaz.rows = is.tables Rows in are_stored gaz.rows (recursion_from_All (IsLine Row) gaz.rows table.each)

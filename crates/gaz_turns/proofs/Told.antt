@@ -3,6 +3,7 @@ use Rattle.std.proofs.Common.{◌≡◌, inl, inr, ⊎_elim, ℕ, Bool, true, fa
 use Rattle.std.specs.Prelude.{if◌then◌else◌, Result, Ok, Err, OnOk}
 use Rattle.std.specs.Io.KnownBytes.{append_known}
 use Rattle.gaz_outside.specs.Outside.{Prints, printed_of}
+use Rattle.gaz_outside.specs.declared.station.Area.{Area}
 use Rattle.gaz_outside.specs.Station.{StationView, Outcome, Leaves, LeavesOnly, LeavesFront, HasFrontOf, AreasStay}
 use Rattle.gaz_outside.proofs.Runs.{begins, goes_on, leaves_weaker}
 use Rattle.gaz_plain.specs.Gazetteer.{Gazetteer}
@@ -10,19 +11,28 @@ use Rattle.gaz_reply.specs.declared.reply.Done.{Done}
 use Rattle.gaz_reply.specs.Reply.{Reply, reply_text, done}
 use Rattle.gaz_reply.proofs.Pieces.{append_none}
 use Rattle.gaz_reply.specs.Tells.{MayBeCut}
-use Rattle.gaz_open.specs.Content.{mirror_in}
+use Rattle.gaz_open.specs.Content.{Mirrors}
 use Rattle.gaz_open.specs.Holds.{AllHold, IsOldOrNext}
+use Rattle.gaz_open.proofs.Mirrored.{same_areas}
 use Rattle.gaz_turns.specs.Turns.{State, Answer, made, same_state}
 use Rattle.gaz_turns.specs.Steps.{IsBeforeOrAfter, IsGiven}
 
 -- Inside the telling, the areas have the gazetteer that all outcomes had when it began, and a front of the reply is printed.
-told_front : (gaz : Gazetteer) (piece : List ℕ) (v : StationView) (c : Outcome) → AllHold v gaz → LeavesFront piece v v c → (mirror_in c.areas ≡ Some gaz) × HasFrontOf piece v.printed c.text
+told_front : (gaz : Gazetteer) (piece : List ℕ) (v : StationView) (c : Outcome) → AllHold v gaz → LeavesFront piece v v c → Mirrors c.areas gaz × HasFrontOf piece v.printed c.text
 told_front gaz piece v c holds front = (holds (record { areas = c.areas; text = v.printed }) (record { areas = front.areas; text = refl }), front.text)
 
 -- where the areas stay, all outcomes have the gazetteer that they had
 pub still_holds : (gaz : Gazetteer) (old new : StationView) → IsTrue old.is_told → AreasStay old new → AllHold old gaz → AllHold new gaz
 still_holds gaz old new told stay holds c leaves =
     holds (record { areas = c.areas; text = old.printed }) (record { areas = λ a. (stay.each told a).outcomes (c.areas a) (leaves.areas a); text = refl })
+
+-- and they mirror as they read what they mirrored
+pub still_mirrors : (gaz : Gazetteer) (old new : StationView) → IsTrue old.is_told → AreasStay old new → Mirrors old.bytes gaz → Mirrors new.bytes gaz
+still_mirrors gaz old new told stay here = (same_areas old.bytes new.bytes (λ a. sym (stay.each told a).bytes) gaz).0 here
+
+-- where all outcomes have the gazetteer, the areas as they read mirror it
+pub mirrors_now : (v : StationView) (gaz : Gazetteer) → ((a : Area) → v.may_leave a (v.bytes a)) → AllHold v gaz → Mirrors v.bytes gaz
+mirrors_now v gaz stay holds = holds (record { areas = v.bytes; text = v.printed }) (record { areas = stay; text = refl })
 
 -- a reply to a request that changes nothing
 pub told_stops : (state : State) (answer : Answer) (old new : StationView) → ((c : Outcome) → old.left_since old.moment c → Leaves old c) → IsTrue old.is_told
@@ -60,12 +70,12 @@ on_ok P (Err x) p = tt
 
 -- a reply that leaves the state
 pub told_given : {A E : Type 0} (state : State) (reply : Reply) (old new : StationView) (result : Result A E) → ((c : Outcome) → IsTrue old.is_told → old.left_since old.moment c → Leaves old c)
-    → Prints (reply_text reply) old new result → MayBeCut (reply_text reply) old new → AreasStay old new → IsGiven (same_state state reply) state state old new result
+    → Prints (reply_text reply) old new result → MayBeCut (reply_text reply) old new → AreasStay old new → IsGiven (same_state state reply) state old new result
 told_given state reply old new result only printed cut stay = record {
   printed = printed;
   moments = λ told holds. told_stops state (same_state state reply) old new (λ c left. only c told left) told refl holds cut;
   holds = on_ok _ result (λ told holds. still_holds state.gaz old new told stay holds);
-  state_is = on_ok _ result refl;
+  mirrors = on_ok _ result (λ told here. still_mirrors state.gaz old new told stay here);
   stays = λ none. stay;
 }
 
@@ -86,24 +96,24 @@ module _ {A E : Type 0} (state : State) (change : Done) (gaz : Gazetteer) (old m
     (stores : IsTrue old.is_told → (first : Gazetteer) → AllHold old first → LeavesOnly old mid (IsOldOrNext first gaz old))
   where
     -- a change that is stored, and then told
-    pub stored_given : (new : StationView) (result : Result A E) → (IsTrue old.is_told → AllHold mid gaz)
-        → Prints (reply_text (done change)) mid new result → MayBeCut (reply_text (done change)) mid new → AreasStay mid new → IsGiven (made change gaz) state (record { gaz = gaz }) old new result
-    stored_given new result holds prints cut stay =
+    pub stored_given : (new : StationView) (result : Result A E) → ((a : Area) → IsTrue mid.is_told → mid.may_leave a (mid.bytes a)) → (IsTrue old.is_told → AllHold mid gaz)
+        → Prints (reply_text (done change)) mid new result → MayBeCut (reply_text (done change)) mid new → AreasStay mid new → IsGiven (made change gaz) state old new result
+    stored_given new result here holds prints cut stay =
         let still : IsTrue old.is_told → IsTrue mid.is_told = λ told. subst (λ (b : Bool). IsTrue b) (sym same) told in
         record {
           printed = prints_from (reply_text (done change)) old mid new result (same_printed old mid same printed) prints;
           moments = λ told first. stored_stops state (made change gaz) old mid new (still told) (printed told) (stores told state.gaz first) (holds told) cut;
           holds = on_ok _ result (λ told first. still_holds gaz mid new (still told) stay (holds told));
-          state_is = on_ok _ result refl;
+          mirrors = on_ok _ result (λ told first. still_mirrors gaz mid new (still told) stay (mirrors_now mid gaz (λ a. here a (still told)) (holds told)));
           stays = λ none. absurd (true≢false none);
         }
 
     -- a change that couldn't be stored
-    pub unstored_given : (now : State) (why : E) → IsGiven {A = A} {E = E} (made change gaz) state now old mid (Err why)
-    unstored_given now why = record {
+    pub unstored_given : (why : E) → IsGiven {A = A} {E = E} (made change gaz) state old mid (Err why)
+    unstored_given why = record {
       printed = ([], (reply_text (done change), refl), same_printed old mid same printed ∙ append_none (printed_of old));
       moments = λ told first. untold_stops state (made change gaz) old mid (stores told state.gaz first);
       holds = tt;
-      state_is = tt;
+      mirrors = tt;
       stays = λ none. absurd (true≢false none);
     }

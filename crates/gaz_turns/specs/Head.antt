@@ -4,9 +4,8 @@ use Rattle.std.specs.List.{list_any}
 use Rattle.gaz_outside.specs.declared.station.Area.{Area}
 use Rattle.gaz_outside.specs.Station.{StationView, Outcome, Leaves, LeavesOnly}
 use Rattle.gaz_plain.specs.Gazetteer.{Gazetteer}
-use Rattle.gaz_plain.specs.Load.{Files}
 use Rattle.gaz_reply.specs.Reply.{acks}
-use Rattle.gaz_open.specs.Content.{mirror_in}
+use Rattle.gaz_open.specs.Content.{Mirrors}
 use Rattle.gaz_open.specs.Holds.{AllHold, IsFound}
 use Rattle.gaz_turns.specs.Turns.{State, Turn, replies, after, state_after}
 
@@ -19,23 +18,22 @@ pub record IsStored (line : List ℕ) : Type 0 where
   pub tab : has_byte 9 line ≡ true
   pub one_line : has_byte 10 line ≡ false
 
--- What a run does: the state at entry, the files, and its turns.
+-- What a run does: the state at entry, and its turns.
 pub record Course : Type 0 where
   pub first : State
-  pub files : Files
   pub turns : List Turn
 
 -- the text of the replies of a course
 abbrev pub replies_of : Course → List ℕ
-replies_of course = replies course.first course.files course.turns
+replies_of course = replies course.first course.turns
 
 -- the gazetteer after the first k accepted changes, if there are so many
 abbrev pub after_changes : ℕ → Course → Option Gazetteer
-after_changes k course = after k course.first course.files course.turns
+after_changes k course = after k course.first course.turns
 
 -- the run's last gazetteer
 abbrev pub last_of : Course → Gazetteer
-last_of course = (state_after course.first course.files course.turns).gaz
+last_of course = (state_after course.first course.turns).gaz
 
 -- The text is a front of the other.
 abbrev pub IsFront : List ℕ → List ℕ → Type 0
@@ -44,7 +42,7 @@ IsFront text whole = (n : ℕ) × (n ≤ length whole) × (text ≡ take n whole
 -- The areas have the gazetteer after as many accepted changes as the text acknowledges, or after one more where there was one more.
 pub record HoldsAcked (course : Course) (text : List ℕ) (areas : Area → List ℕ) : Type 0 where
   pub gaz : Gazetteer
-  pub content : mirror_in areas ≡ Some gaz
+  pub content : Mirrors areas gaz
   pub one_of : (after_changes (acks text) course ≡ Some gaz) ⊎ (after_changes (suc (acks text)) course ≡ Some gaz)
 
 -- What every stop leaves: behind the text at entry a front of the replies, and a gazetteer that has what this front acknowledges.

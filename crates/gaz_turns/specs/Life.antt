@@ -1,18 +1,19 @@
 -- A life: runs, one after another, each on what the one before left. S is the type of a station, and view is what it tells.
 use Rattle.std.specs.Prelude.{◌≡◌, ◌≢◌, ◌⊎◌, ℕ, suc, ⊤, List, [], Some, drop, length, IsTrue}
 use Rattle.gaz_outside.specs.declared.station.Area.{Area}
+use Rattle.gaz_outside.specs.Outside.{ShelfView}
 use Rattle.gaz_outside.specs.Station.{StationView, Outcome}
 use Rattle.gaz_plain.specs.Gazetteer.{Gazetteer}
-use Rattle.gaz_plain.specs.Load.{Files}
 use Rattle.gaz_reply.specs.Reply.{acks}
 use Rattle.gaz_turns.specs.Turns.{Turn}
 use Rattle.gaz_open.specs.Holds.{AllHold}
 use Rattle.gaz_turns.specs.Head.{Course, after_changes}
 use Rattle.gaz_turns.specs.Steps.{RunKeeps}
 
--- a run: what it was given, the station at its entry and at its exit, and its status
+-- a run: the shelf at its entry and at its exit, the lines that it was given, the station at both, and its status
 pub record Run (S : Type 0) : Type 0 where
-  pub files : Files
+  pub shelf : ShelfView
+  pub shelf_now : ShelfView
   pub lines : List (List ℕ)
   pub entry : S
   pub exit : S
@@ -24,15 +25,15 @@ printed_since entry text = drop (length entry.printed) text
 
 -- From this gazetteer legal turns answer the first of the run's lines, and with them the run keeps it.
 abbrev pub KeepsFrom : {S : Type 0} → (S → StationView) → Gazetteer → Run S → Type 0
-KeepsFrom view gaz run = RunKeeps run.files run.lines (record { gaz = gaz }) (view run.entry) (view run.exit) run.status
+KeepsFrom view gaz run = RunKeeps run.shelf run.shelf_now run.lines (record { gaz = gaz }) (view run.entry) (view run.exit) run.status
 
 -- Where the run finds one gazetteer, it keeps that one.
 abbrev pub KeepsAny : {S : Type 0} → (S → StationView) → Run S → Type 0
 KeepsAny view run = IsTrue (view run.exit).is_told × ((gaz : Gazetteer) → AllHold (view run.entry) gaz → KeepsFrom view gaz run)
 
--- the run's course from this gazetteer, with these turns
-abbrev pub course_of : {S : Type 0} → Run S → Gazetteer → List Turn → Course
-course_of run gaz turns = record { first = record { gaz = gaz }; files = run.files; turns = turns }
+-- the course from this gazetteer, with these turns
+abbrev pub course_of : Gazetteer → List Turn → Course
+course_of gaz turns = record { first = record { gaz = gaz }; turns = turns }
 
 -- The next run begins on what a stop of the run left, with nothing pending. The text is what the run had printed.
 pub record AfterStop (run_entry run_exit entry : StationView) (text : List ℕ) : Type 0 where
@@ -86,4 +87,4 @@ GoesOn view gaz (last_run run) follows = AllHold (view run.entry) gaz × KeepsFr
 GoesOn view gaz (more_runs run life) follows =
     AllHold (view run.entry) gaz
     × (kept : KeepsFrom view gaz run)
-    × (next : Gazetteer) × IsAcked (course_of run gaz kept.turns) follows.0.text next × GoesOn view next life follows.1
+    × (next : Gazetteer) × IsAcked (course_of gaz kept.turns) follows.0.text next × GoesOn view next life follows.1

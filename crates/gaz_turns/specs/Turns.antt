@@ -1,5 +1,7 @@
 -- The replies to request lines, one after another, and the gazetteers between them.
-use Rattle.std.specs.Prelude.{◌≡◌, ℕ, ◌⊎◌, ⊤, ◌++◌, List, [], ◌∷◌, count_by, Bool, true, false, Option, option_to_list, is_none, ◌||◌, IsSome, Result, Ok, Err, if◌then◌else◌, slice_get}
+use Rattle.std.specs.Prelude.{◌≡◌, ℕ, ◌⊎◌, ⊤, ◌++◌, List, [], ◌∷◌, count_by, Bool, true, false, Option, Some, option_to_list, is_none, ◌||◌, IsSome, Result, Ok, Err, if◌then◌else◌, slice_get}
+use Rattle.std.specs.List.{AllByRecursion}
+use Rattle.gaz_outside.specs.Outside.{ShelfView}
 use Rattle.gaz_num.specs.declared.words.FileName.{FileName}
 use Rattle.gaz_num.specs.declared.words.Table.TheVariants.{Rows}
 use Rattle.gaz_num.specs.Words.{file_text}
@@ -103,43 +105,44 @@ MayBe plain state files line = ⊤
 MayBe memory state files line = MayStarve (request_in line)
 MayBe (shelf file) state files line = IsReached files file (opens state (request_in line))
 
--- a request line and how it is met
+-- a request line, how it is met, and the files as they were during it
 pub record Turn : Type 0 where
   pub line : List ℕ
   pub verdict : Verdict
+  pub files : Files
 
 -- the answer at a turn
-abbrev pub answer_at : State → Files → Turn → Answer
-answer_at state files turn = answer_by turn.verdict state files turn.line
+abbrev pub answer_at : State → Turn → Answer
+answer_at state turn = answer_by turn.verdict state turn.files turn.line
 
 -- each turn may be met so
-abbrev pub IsLegal : State → Files → List Turn → Type 0
-IsLegal state files [] = ⊤
-IsLegal state files (turn ∷ turns) = MayBe turn.verdict state files turn.line × IsLegal (answer_at state files turn).state files turns
+abbrev pub IsLegal : State → List Turn → Type 0
+IsLegal state [] = ⊤
+IsLegal state (turn ∷ turns) = MayBe turn.verdict state turn.files turn.line × IsLegal (answer_at state turn).state turns
 
 -- the state after all turns
-abbrev pub state_after : State → Files → List Turn → State
-state_after state files [] = state
-state_after state files (turn ∷ turns) = state_after (answer_at state files turn).state files turns
+abbrev pub state_after : State → List Turn → State
+state_after state [] = state
+state_after state (turn ∷ turns) = state_after (answer_at state turn).state turns
 
 -- the text of all replies in order
-abbrev pub replies : State → Files → List Turn → List ℕ
-replies state files [] = []
-replies state files (turn ∷ turns) =
-    let answered = answer_at state files turn in
-    reply_text answered.reply ++ replies answered.state files turns
+abbrev pub replies : State → List Turn → List ℕ
+replies state [] = []
+replies state (turn ∷ turns) =
+    let answered = answer_at state turn in
+    reply_text answered.reply ++ replies answered.state turns
 
 -- the gazetteer at first, and after each change that is made
-abbrev pub gazetteers : State → Files → List Turn → List Gazetteer
-gazetteers state files [] = state.gaz ∷ []
-gazetteers state files (turn ∷ turns) =
-    let answered = answer_at state files turn in
-    let later = gazetteers answered.state files turns in
+abbrev pub gazetteers : State → List Turn → List Gazetteer
+gazetteers state [] = state.gaz ∷ []
+gazetteers state (turn ∷ turns) =
+    let answered = answer_at state turn in
+    let later = gazetteers answered.state turns in
     if is_change answered.reply then state.gaz ∷ later else later
 
 -- the gazetteer after the first k changes
-abbrev pub after : ℕ → State → Files → List Turn → Option Gazetteer
-after k state files turns = slice_get (gazetteers state files turns) k
+abbrev pub after : ℕ → State → List Turn → Option Gazetteer
+after k state turns = slice_get (gazetteers state turns) k
 
 -- the shelf refused the request
 abbrev pub is_shelf : Verdict → Bool
@@ -147,13 +150,40 @@ is_shelf plain = false
 is_shelf memory = false
 is_shelf (shelf file) = true
 
+-- the name of the file at which the shelf failed by this verdict, and else the one before
+abbrev pub blamed_by : Verdict → Option (List ℕ) → Option (List ℕ)
+blamed_by plain before = before
+blamed_by memory before = before
+blamed_by (shelf file) before = Some (file_text file)
+
 -- how many requests the shelf refused
 abbrev pub shelf_refusals : List Turn → ℕ
 shelf_refusals turns = count_by (λ turn. is_shelf turn.verdict) turns
 
+-- the name of the file at which the shelf failed last, where this was the last one before
+abbrev pub blamed_last : Option (List ℕ) → List Turn → Option (List ℕ)
+blamed_last before [] = before
+blamed_last before (turn ∷ turns) = blamed_last (blamed_by turn.verdict before) turns
+
 -- whether a change is made in one of the turns
-abbrev pub has_change : State → Files → List Turn → Bool
-has_change state files [] = false
-has_change state files (turn ∷ turns) =
-    let answered = answer_at state files turn in
-    is_change answered.reply || has_change answered.state files turns
+abbrev pub has_change : State → List Turn → Bool
+has_change state [] = false
+has_change state (turn ∷ turns) =
+    let answered = answer_at state turn in
+    is_change answered.reply || has_change answered.state turns
+
+-- Each turn has the files of the turn before, or others, before which those stood; at first these files, with the earlier ones,
+-- and at the end those of now. Lists of earlier files have the last ones first.
+abbrev pub FilesFollow : Files → List Files → List Turn → Files → List Files → Type 0
+FilesFollow files earlier [] now earlier_now = (now ≡ files) × (earlier_now ≡ earlier)
+FilesFollow files earlier (turn ∷ turns) now earlier_now =
+    ((turn.files ≡ files) × FilesFollow files earlier turns now earlier_now)
+    ⊎ FilesFollow turn.files (files ∷ earlier) turns now earlier_now
+
+-- Each turn has the files that the shelf had then.
+abbrev pub HaveFiles : ShelfView → List Turn → ShelfView → Type 0
+HaveFiles old turns new = FilesFollow old.files old.earlier turns new.files new.earlier
+
+-- The shelf has these files, and never had others.
+abbrev pub HasOnly : Files → ShelfView → Type 0
+HasOnly files view = (view.files ≡ files) × AllByRecursion (λ other. other ≡ files) view.earlier

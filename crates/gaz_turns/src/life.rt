@@ -13,6 +13,6 @@ use gaz_outside::Station;
 pub fn lives<T: Station>()
     ensures law { (life : Life T) (follows : Follows T.view life) → BeginsEmpty T.view life → AllKeep T.view life → GoesOn T.view empty life follows }
     ensures runs { (run : Run T) → IsTrue (T.view run.exit).is_told
-        → ((gaz : Gazetteer) → AllHold (T.view run.entry) gaz → RunKeeps run.files run.lines (record { gaz = gaz }) (T.view run.entry) (T.view run.exit) run.status)
+        → ((gaz : Gazetteer) → AllHold (T.view run.entry) gaz → RunKeeps run.shelf run.shelf_now run.lines (record { gaz = gaz }) (T.view run.entry) (T.view run.exit) run.status)
         → KeepsAny T.view run }
 {}

@@ -1,17 +1,20 @@
-use Rattle.std.proofs.Common.{◌≡◌, arith, sym, Some, None, ◌∙◌}
+use Rattle.std.proofs.Common.{◌≡◌, ℕ, List, arith, sym, Some, None, ◌∙◌}
 use Rattle.gaz_redo.proofs.Steps.{still, both_stay}
 use Rattle.gaz_plain.specs.Gazetteer.{Gazetteer}
+use Rattle.gaz_outside.specs.declared.station.Area.{Area}
+use Rattle.gaz_open.specs.Content.{mirror_in, Mirrors}
 use Rattle.gaz_open.proofs.Opened.{no_log_no_gaz, while_read, fits_opened, read_settled, one_opened, has_none, holds_then, all_stable, reads_in_all, writes_in_all}
 use Rattle.gaz_open.proofs.open.open_plain.Goals as goal
 
-none_opened : {A : Type 0} (gaz : Gazetteer) → None ≡ Some gaz → A
-none_opened gaz is = absurd (no_some gaz is)
+-- areas that read as none mirror none
+none_mirrored : (areas : Area → List ℕ) (gaz : Gazetteer) → Mirrors areas gaz → mirror_in areas ≡ None → ⊥
+none_mirrored areas gaz mirrors none = no_some gaz (sym none ∙ mirrors.is)
   where
     no_some : (gaz : Gazetteer) → None ≡ Some gaz → ⊥
     no_some gaz is = cc is
 
 pub returns-in-Ok-false-clause-none : goal.returns-in-Ok-false-clause-none
-returns-in-Ok-false-clause-none g c told place is = no_log_no_gaz (g.T.Station.view c.args.station.now).bytes (c.in-Ok-false.ensures.no_log told c.in-Ok-false.field-0-test)
+returns-in-Ok-false-clause-none g c told place is gaz mirrors = none_mirrored _ gaz mirrors (no_log_no_gaz (g.T.Station.view c.args.station.now).bytes (c.in-Ok-false.ensures.no_log told c.in-Ok-false.field-0-test))
 
 pub returns-in-Ok-clause-moments : goal.returns-in-Ok-clause-moments
 returns-in-Ok-clause-moments g c told =
@@ -41,7 +44,7 @@ returns-in-Ok-clause-opened g c told =
     let told1 = still v0.is_told v1.is_told c.settle.ensures.counts.told told in
     let settled = c.in-Ok-true.ensures.settled told c.in-Ok-true.field-0-test in
     let run = c.read_mirror.ensures.stays told1 in
-    read_settled v0 v1 v2 settled run ∙ c.in-Ok.ensures.read told1
+    record { is = read_settled v0 v1 v2 settled run ∙ c.in-Ok.ensures.read told1 }
 
 pub returns-in-Ok-clause-fits : goal.returns-in-Ok-clause-fits
 returns-in-Ok-clause-fits g c told =
@@ -54,14 +57,14 @@ returns-in-Ok-clause-fits g c told =
     fits_opened v0 v1 v2 settled run c.in-Ok.mirror.side (c.in-Ok.ensures.names told1)
 
 pub returns-in-Err-read_mirror-clause-none : goal.returns-in-Err-read_mirror-clause-none
-returns-in-Err-read_mirror-clause-none g c told place is =
+returns-in-Err-read_mirror-clause-none g c told place is gaz mirrors =
     let v0 = g.T.Station.view c.args.station.now in
     let v1 = g.T.Station.view c.settle.new.station in
     let v2 = g.T.Station.view c.read_mirror.new.station in
     let told1 = still v0.is_told v1.is_told c.settle.ensures.counts.told told in
     let settled = c.in-Ok-true.ensures.settled told c.in-Ok-true.field-0-test in
     let run = c.read_mirror.ensures.stays told1 in
-    read_settled v0 v1 v2 settled run ∙ c.in-Err-read_mirror.ensures.none told1 place is
+    none_mirrored v0.bytes gaz mirrors (read_settled v0 v1 v2 settled run ∙ c.in-Err-read_mirror.ensures.none told1 place is)
 
 pub returns-in-Ok-clause-one : goal.returns-in-Ok-clause-one
 returns-in-Ok-clause-one g c told gaz holds =
@@ -88,14 +91,7 @@ returns-in-Err-read_mirror-clause-nowhere g c told place is =
     has_none v0 (λ a. g.met.T.Station.may_stay c.args.station.now a told) (read_settled v0 v1 v2 settled run ∙ c.in-Err-read_mirror.ensures.none told1 place is)
 
 pub returns-in-Ok-clause-undefined : goal.returns-in-Ok-clause-undefined
-returns-in-Ok-clause-undefined g c told none =
-    let v0 = g.T.Station.view c.args.station.now in
-    let v1 = g.T.Station.view c.settle.new.station in
-    let v2 = g.T.Station.view c.read_mirror.new.station in
-    let told1 = still v0.is_told v1.is_told c.settle.ensures.counts.told told in
-    let settled = c.in-Ok-true.ensures.settled told c.in-Ok-true.field-0-test in
-    let run = c.read_mirror.ensures.stays told1 in
-    none_opened c.in-Ok.mirror.gaz (sym none ∙ read_settled v0 v1 v2 settled run ∙ c.in-Ok.ensures.read told1)
+returns-in-Ok-clause-undefined g c told none = absurd (none c.in-Ok.mirror.gaz (returns-in-Ok-clause-opened g c told))
 
 pub returns-in-Ok-clause-now : goal.returns-in-Ok-clause-now
 returns-in-Ok-clause-now g c told =

@@ -17,7 +17,7 @@ loop-line-init g c = record {
   line_limit = c.restart.ensures.line_limit ∙ c.requires.line_limit;
   file_limit = c.restart.ensures.file_limit ∙ c.requires.file_limit;
   numbers = λ n. refl;
-  same = record { told = refl; files = refl };
+  same = record { told = refl; files = refl; earlier = refl };
   unblamed = record { faults = refl; last = refl };
   dated = refl;
 }
@@ -65,7 +65,7 @@ loop-line-preserved g c =
       line_limit = gave.line_limit ∙ i.line_limit;
       file_limit = gave.file_limit ∙ i.file_limit;
       numbers = λ n. c.next_shelf.ensures.numbers n ∙ i.numbers n;
-      same = record { told = c.next_shelf.ensures.same.told ∙ i.same.told; files = c.next_shelf.ensures.same.files ∙ i.same.files };
+      same = record { told = c.next_shelf.ensures.same.told ∙ i.same.told; files = c.next_shelf.ensures.same.files ∙ i.same.files; earlier = c.next_shelf.ensures.same.earlier ∙ i.same.earlier };
       unblamed = record { faults = e.cause ∙ i.unblamed.faults; last = e.blames ∙ i.unblamed.last };
       dated = c.step.ensures.date ∙ i.dated;
     }

@@ -1,11 +1,11 @@
-use Rattle.std.proofs.Common.{◌≡◌, ℕ, refl, ap, sym, subst, arith, inl, inr, ◌∙◌, Option, Some, None}
-use Rattle.std.specs.Prelude.{unwrap_or}
+use Rattle.std.proofs.Common.{◌≡◌, ℕ, Bool, IsTrue, refl, sym, subst, arith, inl, inr, ◌∙◌}
 use Rattle.gaz_outside.specs.Outside.{RisesOnce, left_of}
-use Rattle.gaz_plain.specs.Gazetteer.{Gazetteer, empty}
+use Rattle.gaz_open.specs.Holds.{AllHold}
+use Rattle.gaz_turns.proofs.Told.{mirrors_now, same_printed}
 use Rattle.gaz_serve.specs.Ran.{IsUnopened}
-use Rattle.gaz_serve.proofs.Changing.{weaker}
 use Rattle.gaz_serve.proofs.Answered.{IsOpening, answered, run_opened, stops_opened, exit_opened, with_unopened, opened_status}
 use Rattle.gaz_serve.proofs.Unopened.{opens_nothing, ran_unopened}
+use Rattle.gaz_serve.proofs.Telling.{tells_from}
 use Rattle.gaz_serve.proofs.top.serve_all.Goals as goal
 
 pub returns-in-Err : goal.returns-in-Err
@@ -39,10 +39,6 @@ returns g c =
     (λ t o told le leaves. g.met.T.Station.counts_now c.start.new.station t o told le leaves)
     (λ is told. c.in-Err-NotAMirror.ensures.none told _ c.in-Err-NotAMirror.field-0-is) (λ is. absurd (omega (arith, is))) (λ is. rw c.in-Err-NotAMirror.field-0-is at c.in-Err-NotAMirror.ensures.cause)
 
-some_none : {A : Type 0} (o : Option Gazetteer) (gaz : Gazetteer) → o ≡ Some gaz → o ≡ None → A
-some_none None gaz some none = absurd (cc)
-some_none (Some x) gaz some none = absurd (cc)
-
 pub returns-in-Ok-start : goal.returns-in-Ok-start
 returns-in-Ok-start g c =
     let e = c.run.ensures in
@@ -50,25 +46,28 @@ returns-in-Ok-start g c =
     let old = g.T.Station.view c.args.station.now in
     let mid = g.T.Station.view c.start.new.station in
     let new = g.T.Station.view c.run.new.station in
+    let shelf = g.F.Shelf.view c.args.shelf.now in
+    let shelf_now = g.F.Shelf.view c.run.new.shelf in
     let others = with_unopened c.run.result e.others in
     let faults = c.in-Ok-start.ensures.cause in
     let opening : IsOpening old mid = record { told = s.told; printed = s.printed; moments = s.moments; untouched = s.untouched; unwritten = s.unwritten } in
     let failed : c.run.result ≡ 3 → RisesOnce old.faults new.faults = λ is. subst (λ (n : ℕ). RisesOnce n new.faults) faults (e.station is) in
     record {
-      first = c.in-Ok-start.session.state;
-      first_is = λ told. ap (λ (o : Option Gazetteer). record { gaz = unwrap_or o empty }) (sym (c.in-Ok-start.ensures.state told));
-      answers = weaker _ (λ files run.
-          answered c.in-Ok-start.session.state files (left_of (g.S.Source.view c.args.requests.now)) (left_of (g.S.Source.view c.run.new.source)) (g.S.Source.view c.args.requests.now).faults (g.S.Source.view c.run.new.source).faults (g.F.Shelf.view c.args.shelf.now).faults (g.F.Shelf.view c.run.new.shelf).faults old new (IsUnopened c.args.requests.now c.run.new.source c.args.shelf.now c.run.new.shelf old new c.run.result) c.run.result
-          (run_opened c.in-Ok-start.session.state files _ _ _ _ old mid new c.run.result opening c.in-Ok-start.ensures.holds run)
-          (stops_opened c.in-Ok-start.session.state files _ _ _ _ old mid new c.run.result opening c.in-Ok-start.ensures.holds run)
-          (inr (exit_opened c.in-Ok-start.session.state files _ _ _ _ old mid new c.run.result opening c.in-Ok-start.ensures.holds run e.told))
-          failed e.source others) e.answers;
+      answers = λ told shelf_told first mirrors.
+          let here = subst (λ (b : Bool). IsTrue b) (sym s.told) told in
+          let holds : IsTrue old.is_told → AllHold mid first.gaz = λ told. c.in-Ok-start.ensures.holds told first.gaz mirrors in
+          let run = e.answers here shelf_told first (mirrors_now mid first.gaz (λ a. g.met.T.Station.may_stay c.start.new.station a here) (holds told)) in
+          answered first (left_of (g.S.Source.view c.args.requests.now)) (left_of (g.S.Source.view c.run.new.source)) (g.S.Source.view c.args.requests.now).faults (g.S.Source.view c.run.new.source).faults shelf shelf_now old new (IsUnopened c.args.requests.now c.run.new.source c.args.shelf.now c.run.new.shelf old new c.run.result) c.run.result
+          (run_opened first _ _ shelf shelf_now old mid new c.run.result opening holds run)
+          (stops_opened first _ _ shelf shelf_now old mid new c.run.result opening holds run)
+          (inr (exit_opened first _ _ shelf shelf_now old mid new c.run.result opening holds run e.told))
+          failed e.source others;
+      failures = tells_from shelf shelf_now old mid new c.run.result (same_printed old mid s.told s.printed) e.failures;
       none = λ is. opened_status c.run.result e.others (inr is);
-      undefined = λ told is. some_none _ _ (c.in-Ok-start.ensures.state told) is;
       unopened = λ is. opened_status c.run.result e.others is;
       emptied = e.emptied;
       taken = e.taken;
-      same = e.same;
+      shelf_told = e.shelf_told;
       numbers = e.numbers;
       station_failed = failed;
       station_kept = λ is. e.station_kept is ∙ faults;

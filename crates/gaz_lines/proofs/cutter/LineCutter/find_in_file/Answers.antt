@@ -18,7 +18,7 @@ loop-result-init g c = record {
   waits = inl refl;
   rests = λ ended. (refl, ended);
   reads = (c.place.result, refl);
-  same = record { told = refl; files = refl };
+  same = record { told = refl; files = refl; earlier = refl };
   numbers = λ n. refl;
   blames = refl;
   faults = refl;
@@ -47,7 +47,7 @@ loop-result-preserved g c =
       waits = inr (waited c.args.self.now c.loop-result.self c.step.new.self c.loop-result.searched c.in-More.count _ _ i.reading c.in-More.ensures 65536 took.0 _ read (omega (arith, took.1, c.in-Ok.ensures.count)));
       rests = λ ended. absurd (false≢true (sym c.in-More.ensures.2 ∙ (i.rests ended).1));
       reads = (_, refl);
-      same = record { told = e.same.told ∙ i.same.told; files = e.same.files ∙ i.same.files };
+      same = record { told = e.same.told ∙ i.same.told; files = e.same.files ∙ i.same.files; earlier = e.same.earlier ∙ i.same.earlier };
       numbers = λ n. e.numbers n ∙ i.numbers n;
       blames = e.blames ∙ i.blames;
       faults = c.in-Ok.ensures.cause.kept ∙ i.faults;

@@ -1,11 +1,9 @@
 use Rattle.std.proofs.Common.{◌≡◌, ◌<◌, length, Some, refl, arith}
-use Rattle.gaz_outside.specs.Outside.{files_of}
 use Rattle.gaz_outside.specs.Listed.{file_named, listed, name_at}
 use Rattle.gaz_outside.proofs.Places.{none_named, none_found, is_found, named_within, opened_in-set_same, opened_in-set_other, opened_before}
-use Rattle.gaz_outside.proofs.mem_shelf.MemShelfShelf.«open».Goals as goal
+use Rattle.gaz_outside.proofs.mem_shelf.MemShelf.open_found.Goals as goal
 
 pub returns-in-Some-clause-found : goal.returns-in-Some-clause-found
-unfolding files_of
 returns-in-Some-clause-found c =
     let named : name_at (listed c.args.self.now.files.items) c.in-Some.place ≡ Some c.args.name.now = rw (← c.deref-2.ensures.value) c.in-Some.ensures.last.named in
     (λ _. is_found (listed c.args.self.now.files.items) c.args.name.now c.in-Some.place named, λ _. refl)
@@ -21,7 +19,6 @@ returns-in-Some-clause-opens c =
     }
 
 pub returns-in-None-clause-found : goal.returns-in-None-clause-found
-unfolding files_of
 returns-in-None-clause-found c =
     let none = none_named (listed c.args.self.now.files.items) c.args.name.now (rw (← c.deref-2.ensures.value) (c.in-None.ensures.none refl)) in
     none_found (file_named (listed c.args.self.now.files.items) c.args.name.now) none
