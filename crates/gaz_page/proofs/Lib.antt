@@ -1,3 +1,9 @@
 pub mod Written
 pub mod Read
+pub mod TreeRoot
+pub mod Area
+pub mod PageMaps
+pub mod FreeBack
+pub mod FreeChains
 mod Examples
+mod TreeExamples

@@ -1,16 +1,26 @@
-//! Pages of the device.
-//! The areas Root, Left and Right are read and written by pages of `PAGE` bytes, page n from byte n * `PAGE` on.
-//! Root holds one page, the root page, which names the side that holds the gazetteer: Left or Right.
-//! So far that page is one of version 0: the side holds one text, and the page has its length, its date and its numbers of lines.
-//! Reading is the definition for every list of bytes, and writing takes no memory. What was written is read, and what is read was so written.
+//! Pages of `PAGE` bytes by their numbers: the trait by which trees and records read and change them, and the root page that names them.
+//! The areas Root, Left and Right are read and written by pages, page n from byte n * `PAGE` on. Root holds one page, the root page, which
+//! names the side that holds the gazetteer: as one text (version 0) or as pages of a tree and of records (version 1).
+//! Reading a root page is the definition for every list of bytes, and writing takes no memory. What was written is read, and what is read was
+//! so written. `Pages` is a map of pages with a chain of free ones and counts; `MemPages` is one in memory, of which each call can fail.
 #![tactic(auto)]
 
+mod fields;
+mod free;
 mod laws;
+mod mem_pages;
 mod page;
+mod pages;
 mod root;
 #[cfg(test)]
 mod tests;
+mod tree_root;
 
-pub use laws::{read_is_written, written_is_read};
+pub use fields::{long_at, number_at, short_at};
+pub use free::{read_free, write_free};
+pub use laws::{read_is_written, tree_roots, written_is_read};
+pub use mem_pages::MemPages;
 pub use page::{PAGE, Side};
+pub use pages::{PageFault, Pages};
 pub use root::{LineCounts, PlainRoot, read_plain_root, write_plain_root};
+pub use tree_root::{Root, read_root, write_root};
