@@ -5,5 +5,6 @@ pub mod Area
 pub mod PageMaps
 pub mod FreeBack
 pub mod FreeChains
+pub mod TakeDamages
 mod Examples
 mod TreeExamples

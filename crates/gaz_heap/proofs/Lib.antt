@@ -1,0 +1,15 @@
+pub mod Asked
+pub mod Chain
+pub mod Pieces
+pub mod Placing
+pub mod Stored
+pub mod Holds
+pub mod StoredPuts
+pub mod NewPuts
+pub mod Changed
+pub mod LongPuts
+pub mod SlotDrops
+pub mod ChainDrops
+pub mod Walks
+pub mod UsedUp
+pub mod AnyDrops

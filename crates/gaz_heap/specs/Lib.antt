@@ -1,0 +1,4 @@
+pub mod Chain
+pub mod Place
+pub mod Facts
+pub mod Heap

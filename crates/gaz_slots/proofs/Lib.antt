@@ -1,0 +1,15 @@
+pub mod Below
+pub mod Edits
+pub mod Form
+pub mod Placed
+pub mod Emptied
+pub mod Added
+pub mod Empty
+pub mod Filled
+pub mod Packed
+pub mod Slots
+pub mod Recorded
+pub mod Shown
+pub mod PieceFilled
+pub mod PieceForm
+pub mod PageKinds

@@ -1,0 +1,4 @@
+pub mod Bytes
+pub mod RecordPage
+pub mod Edited
+pub mod Overflow

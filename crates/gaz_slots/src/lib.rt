@@ -1,0 +1,15 @@
+//! Records within one page.
+//! A record page has a list of slots from its front and records from its end towards them; an overflow page has one piece of a record
+//! that is too long for a record page. Each move is over the bytes of one page, in place, and keeps the page in form: a slot is filled,
+//! made free or added, a page is packed, a piece is written. The least free slot is filled, and a page is packed where the record
+//! wouldn't fit else. Reading is safe on any bytes; nothing takes memory.
+#![tactic(auto)]
+
+mod bytes;
+mod overflow;
+mod record_page;
+
+pub use overflow::{LONGEST, PIECE, Piece, copy_piece, fill_piece, next_of};
+pub use record_page::{
+    clear_slot, copy_slot, fill_alone, insert, is_record_page, is_used, used_end,
+};

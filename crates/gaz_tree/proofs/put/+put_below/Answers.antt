@@ -1,0 +1,104 @@
+use Rattle.std.proofs.Common.{◌≡◌, ◌+◌, ◌-◌, ℕ, suc, refl, sym, subst, arith}
+use Rattle.std.specs.Prelude.{IsTrue, Ok}
+use Rattle.gaz_leaf.specs.declared.kind.Kind.TheVariants.{Inner}
+use Rattle.gaz_leaf.specs.Node.{Pair, IsForm, key_of}
+use Rattle.gaz_tree.specs.declared.grown.Grown.{Grown}
+use Rattle.gaz_tree.specs.declared.grown.Grown.TheVariants.{Same, Kept}
+use Rattle.gaz_tree.specs.Tree.{next_key, IsHead, Reaches, children_of, BeginsWithZero}
+use Rattle.gaz_tree.specs.Calls.{LeadsTo}
+use Rattle.gaz_tree.specs.Put.{Puts}
+use Rattle.gaz_tree.proofs.Answered.{set_out, chain_same, puts_over, split_answered, kept_answered, same_answered}
+use Rattle.gaz_tree.proofs.put.+put_below.Goals as goal
+
+pub returns-then-level-eq0-clause-puts : goal.returns-then-level-eq0-clause-puts
+returns-then-level-eq0-clause-puts g t c told low high head lo hi lies chain =
+    let v = g.P.Pages.view in
+    let old = v c.args.pages.now in
+    let is = c.if-level-eq0.true in
+    let p : Pair = record { key = key_of c.args.key.now; value = c.args.value } in
+    subst (λ (l : ℕ). Puts old (v c.put_leaf.new.pages) l c.args.page low high p c.put_leaf.result) (sym is)
+    (c.put_leaf.ensures.puts told low high (subst (λ (l : ℕ). IsHead old.page l c.args.page low high) is head) lo hi
+    (lies c.args.page (subst (λ (l : ℕ). Reaches old.page l c.args.page c.args.page) (sym is) refl)) chain)
+
+pub returns-in-Ok-Split-clause-puts : goal.returns-in-Ok-Split-clause-puts
+returns-in-Ok-Split-clause-puts g t c told low high head lo hi lies chain =
+    let v = g.P.Pages.view in
+    let old = v c.args.pages.now in
+    let mid = v c.read_way.new.pages in
+    let reads = c.in-Ok.ensures.reads in
+    let same = reads.same (λ failed. failed) told in
+    let still : IsTrue mid.is_told = subst IsTrue (sym reads.counts.told) told in
+    let some = c.if-level-eq0.false in
+    let below = c.args.level - 1 in
+    let next : c.args.level ≡ suc below = omega arith in
+    let key = c.read.ensures.is in
+    let k = key_of c.args.key.now in
+    let to = c.in-Ok.way in
+    let page = c.args.page in
+    let p : Pair = record { key = k; value = c.args.value } in
+    let leads = λ (number : ℕ) (f : IsForm Inner number (old.page page)) (b : BeginsWithZero (children_of old.page page)).
+    subst (λ (m : ℕ). LeadsTo (children_of old.page page) m (Ok to)) key (c.in-Ok.ensures.leads told number f b) in
+    let set = set_out old mid c.args.level below page low high k to same next head lo hi lies leads in
+    let w = set.way.way in
+    let put = subst (λ (r : Grown). Puts mid (v c.put_below.new.pages) below to.child w.at (next_key high w.ys) p (Ok r)) c.in-Ok-Split.field-0-is
+    (c.in-Ok-Split.ensures.puts still w.at (next_key high w.ys) set.child.tree.1 w.start w.end set.child.lies (chain_same old mid same chain)) in
+    let again : IsTrue (v c.put_below.new.pages).is_told = subst IsTrue (sym c.put_below.ensures.counts.told) still in
+    let last = v c.add_entry.new.pages in
+    subst (λ (l : ℕ). Puts old last l page low high p c.add_entry.result) (sym next)
+    (puts_over old mid last (suc below) page low high p c.add_entry.result same reads.unchanged
+    (split_answered mid (v c.put_below.new.pages) last below page low high k to.place to.child (to.place + 1) p c.in-Ok-Split.half c.add_entry.result set.way refl refl put
+    (c.add_entry.ensures.adds again)))
+
+pub returns-in-Ok-Kept-clause-puts : goal.returns-in-Ok-Kept-clause-puts
+returns-in-Ok-Kept-clause-puts g t c told low high head lo hi lies chain =
+    let v = g.P.Pages.view in
+    let old = v c.args.pages.now in
+    let mid = v c.read_way.new.pages in
+    let reads = c.in-Ok.ensures.reads in
+    let same = reads.same (λ failed. failed) told in
+    let still : IsTrue mid.is_told = subst IsTrue (sym reads.counts.told) told in
+    let some = c.if-level-eq0.false in
+    let below = c.args.level - 1 in
+    let next : c.args.level ≡ suc below = omega arith in
+    let key = c.read.ensures.is in
+    let k = key_of c.args.key.now in
+    let to = c.in-Ok.way in
+    let page = c.args.page in
+    let p : Pair = record { key = k; value = c.args.value } in
+    let leads = λ (number : ℕ) (f : IsForm Inner number (old.page page)) (b : BeginsWithZero (children_of old.page page)).
+    subst (λ (m : ℕ). LeadsTo (children_of old.page page) m (Ok to)) key (c.in-Ok.ensures.leads told number f b) in
+    let set = set_out old mid c.args.level below page low high k to same next head lo hi lies leads in
+    let w = set.way.way in
+    let put = subst (λ (r : Grown). Puts mid (v c.put_below.new.pages) below to.child w.at (next_key high w.ys) p (Ok r)) c.in-Ok-Kept.field-0-is
+    (c.in-Ok-Kept.ensures.puts still w.at (next_key high w.ys) set.child.tree.1 w.start w.end set.child.lies (chain_same old mid same chain)) in
+    let last = v c.put_below.new.pages in
+    subst (λ (l : ℕ). Puts old last l page low high p (Ok Kept)) (sym next)
+    (puts_over old mid last (suc below) page low high p (Ok Kept) same reads.unchanged
+    (kept_answered mid last below page low high k to.place to.child p set.way refl put))
+
+pub returns-in-Ok-Same-clause-puts : goal.returns-in-Ok-Same-clause-puts
+returns-in-Ok-Same-clause-puts g t c told low high head lo hi lies chain =
+    let v = g.P.Pages.view in
+    let old = v c.args.pages.now in
+    let mid = v c.read_way.new.pages in
+    let reads = c.in-Ok.ensures.reads in
+    let same = reads.same (λ failed. failed) told in
+    let still : IsTrue mid.is_told = subst IsTrue (sym reads.counts.told) told in
+    let some = c.if-level-eq0.false in
+    let below = c.args.level - 1 in
+    let next : c.args.level ≡ suc below = omega arith in
+    let key = c.read.ensures.is in
+    let k = key_of c.args.key.now in
+    let to = c.in-Ok.way in
+    let page = c.args.page in
+    let p : Pair = record { key = k; value = c.args.value } in
+    let leads = λ (number : ℕ) (f : IsForm Inner number (old.page page)) (b : BeginsWithZero (children_of old.page page)).
+    subst (λ (m : ℕ). LeadsTo (children_of old.page page) m (Ok to)) key (c.in-Ok.ensures.leads told number f b) in
+    let set = set_out old mid c.args.level below page low high k to same next head lo hi lies leads in
+    let w = set.way.way in
+    let put = subst (λ (r : Grown). Puts mid (v c.put_below.new.pages) below to.child w.at (next_key high w.ys) p (Ok r)) c.in-Ok-Same.field-0-is
+    (c.in-Ok-Same.ensures.puts still w.at (next_key high w.ys) set.child.tree.1 w.start w.end set.child.lies (chain_same old mid same chain)) in
+    let last = v c.put_below.new.pages in
+    subst (λ (l : ℕ). Puts old last l page low high p (Ok Same)) (sym next)
+    (puts_over old mid last (suc below) page low high p (Ok Same) same reads.unchanged
+    (put.0, same_answered mid below page low high k to.place to.child p set.way refl put.1, put.2))

@@ -1,0 +1,89 @@
+use Rattle.std.proofs.Common.{◌≡◌, ◌-◌, ℕ, suc, sym, subst, arith}
+use Rattle.std.specs.Prelude.{IsTrue, Ok}
+use Rattle.gaz_leaf.specs.Node.{key_in}
+use Rattle.gaz_tree.specs.declared.shrunk.Shrunk.{Shrunk}
+use Rattle.gaz_tree.specs.declared.shrunk.Shrunk.TheVariants.{Absent, Fine}
+use Rattle.gaz_tree.specs.Tree.{next_key, IsHead}
+use Rattle.gaz_tree.specs.Remove.{Removes}
+use Rattle.gaz_tree.proofs.Answered.{set_out, chain_same}
+use Rattle.gaz_tree.proofs.Removes.{removes_over, fine_answered, low_result, absent_answered}
+use Rattle.gaz_tree.proofs.remove.+remove_below.Goals as goal
+
+pub returns-then-level-eq0-clause-removes : goal.returns-then-level-eq0-clause-removes
+returns-then-level-eq0-clause-removes g t c told low high head lo hi lies chain =
+    let v = g.P.Pages.view in
+    let old = v c.args.pages.now in
+    let is = c.if-level-eq0.true in
+    subst (λ (l : ℕ). Removes old (v c.remove_leaf.new.pages) l c.args.page low high (key_in c.args.key) c.remove_leaf.result) (sym is)
+    (c.remove_leaf.ensures.removes told low high (subst (λ (l : ℕ). IsHead old.page l c.args.page low high) is head) lo hi chain)
+
+pub returns-in-Ok-Low-clause-removes : goal.returns-in-Ok-Low-clause-removes
+returns-in-Ok-Low-clause-removes g t c told low high head lo hi lies chain =
+    let v = g.P.Pages.view in
+    let old = v c.args.pages.now in
+    let mid = v c.read_way.new.pages in
+    let reads = c.in-Ok.ensures.reads in
+    let same = reads.same (λ failed. failed) told in
+    let still : IsTrue mid.is_told = subst IsTrue (sym reads.counts.told) told in
+    let some = c.if-level-eq0.false in
+    let below = c.args.level - 1 in
+    let next : c.args.level ≡ suc below = omega arith in
+    let k = key_in c.args.key in
+    let to = c.in-Ok.way in
+    let page = c.args.page in
+    let set = set_out old mid c.args.level below page low high k to same next head lo hi lies (c.in-Ok.ensures.leads told) in
+    let w = set.way.way in
+    let less = v c.remove_below.new.pages in
+    let removed = subst (λ (r : Shrunk). Removes mid less below to.child w.at (next_key high w.ys) k (Ok r)) c.in-Ok-Low.field-0-is
+    (c.in-Ok-Low.ensures.removes still w.at (next_key high w.ys) set.child.tree.1 w.start w.end set.child.lies (chain_same old mid same chain)) in
+    let again : IsTrue less.is_told = subst IsTrue (sym c.remove_below.ensures.counts.told) still in
+    let last = v c.mend.new.pages in
+    subst (λ (l : ℕ). Removes old last l page low high k c.mend.result) (sym next)
+    (removes_over old mid last (suc below) page low high k c.mend.result same reads.unchanged
+    (low_result mid less last below page low high k to.place to.child c.kind_of.result less.is_told c.mend.result set.way c.kind_of.ensures removed again c.mend.ensures.mended))
+
+pub returns-in-Ok-Fine-clause-removes : goal.returns-in-Ok-Fine-clause-removes
+returns-in-Ok-Fine-clause-removes g t c told low high head lo hi lies chain =
+    let v = g.P.Pages.view in
+    let old = v c.args.pages.now in
+    let mid = v c.read_way.new.pages in
+    let reads = c.in-Ok.ensures.reads in
+    let same = reads.same (λ failed. failed) told in
+    let still : IsTrue mid.is_told = subst IsTrue (sym reads.counts.told) told in
+    let some = c.if-level-eq0.false in
+    let below = c.args.level - 1 in
+    let next : c.args.level ≡ suc below = omega arith in
+    let k = key_in c.args.key in
+    let to = c.in-Ok.way in
+    let page = c.args.page in
+    let set = set_out old mid c.args.level below page low high k to same next head lo hi lies (c.in-Ok.ensures.leads told) in
+    let w = set.way.way in
+    let less = v c.remove_below.new.pages in
+    let removed = subst (λ (r : Shrunk). Removes mid less below to.child w.at (next_key high w.ys) k (Ok r)) c.in-Ok-Fine.field-0-is
+    (c.in-Ok-Fine.ensures.removes still w.at (next_key high w.ys) set.child.tree.1 w.start w.end set.child.lies (chain_same old mid same chain)) in
+    subst (λ (l : ℕ). Removes old less l page low high k (Ok Fine)) (sym next)
+    (removes_over old mid less (suc below) page low high k (Ok Fine) same reads.unchanged
+    (fine_answered mid less below page low high k to.place to.child set.way removed.0 removed.1))
+
+pub returns-in-Ok-Absent-clause-removes : goal.returns-in-Ok-Absent-clause-removes
+returns-in-Ok-Absent-clause-removes g t c told low high head lo hi lies chain =
+    let v = g.P.Pages.view in
+    let old = v c.args.pages.now in
+    let mid = v c.read_way.new.pages in
+    let reads = c.in-Ok.ensures.reads in
+    let same = reads.same (λ failed. failed) told in
+    let still : IsTrue mid.is_told = subst IsTrue (sym reads.counts.told) told in
+    let some = c.if-level-eq0.false in
+    let below = c.args.level - 1 in
+    let next : c.args.level ≡ suc below = omega arith in
+    let k = key_in c.args.key in
+    let to = c.in-Ok.way in
+    let page = c.args.page in
+    let set = set_out old mid c.args.level below page low high k to same next head lo hi lies (c.in-Ok.ensures.leads told) in
+    let w = set.way.way in
+    let less = v c.remove_below.new.pages in
+    let absent = subst (λ (r : Shrunk). Removes mid less below to.child w.at (next_key high w.ys) k (Ok r)) c.in-Ok-Absent.field-0-is
+    (c.in-Ok-Absent.ensures.removes still w.at (next_key high w.ys) set.child.tree.1 w.start w.end set.child.lies (chain_same old mid same chain)) in
+    subst (λ (l : ℕ). Removes old less l page low high k (Ok Absent)) (sym next)
+    (removes_over old mid less (suc below) page low high k (Ok Absent) same reads.unchanged
+    (absent.0, absent_answered mid below page low high k to.place to.child set.way absent.1, absent.2))

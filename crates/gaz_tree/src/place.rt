@@ -1,0 +1,94 @@
+//! Where a pair goes in a leaf.
+ghost use Rattle.std.specs.Prelude.{◌≡◌, ◌≤◌, ◌<◌, ◌+◌, ◌^◌, ℕ, false, List, length, IsTrue, IfOk, IfErr, OnOk};
+ghost use Rattle.std.specs.Prelude.{◌∷◌, ◌++◌, take, drop};
+ghost use Rattle.gaz_page.specs.Pages.{HasPageCause, Counts};
+ghost use Rattle.gaz_leaf.specs.Node.{Pair, key_in, key_of, pairs_in, count_of as count_in, IsForm};
+ghost use Rattle.gaz_tree.specs.Pairs.{Within};
+ghost use Rattle.gaz_tree.specs.Tree.{leaf_of};
+ghost use Rattle.gaz_page.specs.Pages.{HasReads, NoMemory};
+ghost use Rattle.gaz_tree.specs.Put.{Places, IsAdded};
+
+use crate::add::load;
+use gaz_leaf::{Key, Kind, first_above, is_shaped, key_at, replace, value_at};
+use gaz_page::{PageFault, Pages};
+
+/// Where a pair goes among the pairs of a leaf.
+#[derive(Clone, Copy, Debug, PartialEq, Eq)]
+pub enum Place {
+    /// It is there.
+    There,
+    /// Over the pair at this place, which has its key.
+    Over(usize),
+    /// Before the pair at this place.
+    Between(usize),
+}
+
+/// The place in a leaf with these bytes.
+fn place_in(bytes: &[u8], page: u32, key: Key, value: u64) -> Result<Place, PageFault>
+    requires { length bytes.now ≡ 4096 }
+    ensures place { (number low high : ℕ) → IsForm Kind.Leaf number bytes.now → Within low high (pairs_in Kind.Leaf bytes.now) → low ≤ key_in key → key_in key < high
+        → Places (pairs_in Kind.Leaf bytes.now) (record { key = key_in key; value = value }) result }
+    ensures fault { IfErr result (λ fault. fault ≡ PageFault.Damaged page) }
+{
+    if !is_shaped(bytes, Kind::Leaf) {
+        return Err(PageFault::Damaged(page));
+    }
+    let next = first_above(bytes, Kind::Leaf, 0, key);
+    if next == 0 {
+        return Ok(Place::Between(next));
+    }
+    if key_at(bytes, Kind::Leaf, next - 1).is_below(key) {
+        return Ok(Place::Between(next));
+    }
+    if value_at(bytes, Kind::Leaf, next - 1) == value {
+        return Ok(Place::There);
+    }
+    Ok(Place::Over(next - 1))
+}
+
+/// The place in a leaf.
+pub fn read_place<P: Pages>(
+    pages: &mut P,
+    page: u32,
+    key: Key,
+    value: u64,
+) -> Result<Place, PageFault>
+    ensures place { IsTrue (P.view pages.old).is_told → (number low high : ℕ) → IsForm Kind.Leaf number ((P.view pages.old).page page)
+        → Within low high (leaf_of (P.view pages.old).page page) → low ≤ key_in key → key_in key < high
+        → Places (leaf_of (P.view pages.old).page page) (record { key = key_in key; value = value }) result }
+    ensures fault { IfErr result NoMemory }
+    ensures reads { HasReads 1 (P.view pages.old) (P.view pages.new) result }
+    ensures keeps { P.keeps pages.old pages.new }
+{
+    match pages.read(page) {
+        Ok(bytes) => place_in(bytes, page, key, value),
+        Err(fault) => Err(fault),
+    }
+}
+
+/// Puts a pair over another in a leaf.
+pub fn put_over<P: Pages>(
+    pages: &mut P,
+    page: u32,
+    n: usize,
+    key: &[u8; 32],
+    value: u64,
+) -> Result<(), PageFault>
+    requires may_change { (P.view pages.old).is_read_only ≡ false }
+    ensures over { OnOk result (IsTrue (P.view pages.old).is_told → IsForm Kind.Leaf page ((P.view pages.old).page page)
+        → IsAdded Kind.Leaf page (take n (leaf_of (P.view pages.old).page page) ++ record { key = key_of key.now; value = value } ∷ drop (n + 1) (leaf_of (P.view pages.old).page page)) (P.view pages.old) (P.view pages.new)) }
+    ensures counts { Counts 1 1 (P.view pages.old) (P.view pages.new) }
+    ensures cause { HasPageCause (P.view pages.old) (P.view pages.new) result }
+    ensures keeps { P.keeps pages.old pages.new }
+{
+    let mut buf = [0; 4096];
+    let count = match load(pages, Kind::Leaf, page, &mut buf) {
+        Ok(count) => count,
+        Err(fault) => return Err(fault),
+    };
+    if n >= count {
+        return Err(PageFault::Damaged(page));
+    }
+    replace(&mut buf, Kind::Leaf, n, key, value);
+    pages.write(page, &buf)
+}

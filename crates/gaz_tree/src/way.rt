@@ -1,0 +1,59 @@
+//! The way from a page towards a key.
+ghost use Rattle.std.specs.Prelude.{◌≡◌, ◌≤◌, ◌<◌, ◌+◌, ◌^◌, ℕ, length, IsTrue, IfOk, IfErr, Ok};
+ghost use Rattle.gaz_leaf.specs.Node.{key_in, pairs_in, IsForm};
+ghost use Rattle.gaz_page.specs.Pages.{PagesView};
+ghost use Rattle.gaz_tree.specs.Pairs.{Within, lookup};
+ghost use Rattle.gaz_tree.specs.Tree.{BeginsWithZero, children_of, leaf_of};
+ghost use Rattle.gaz_page.specs.Pages.{HasReads};
+ghost use Rattle.gaz_tree.specs.Calls.{IsGot, LeadsTo};
+
+use gaz_leaf::{Key, Kind, child_at, count_of, first_above, is_shaped, key_at, value_at};
+use gaz_page::{PageFault, Pages};
+
+/// The child page that has the key within its bounds, and its place.
+#[derive(Clone, Copy, Debug, PartialEq, Eq)]
+pub struct Way {
+    pub place: usize,
+    pub child: u32,
+}
+
+/// The way from an inner page with these bytes.
+pub fn way_in(bytes: &[u8], page: u32, key: Key) -> Result<Way, PageFault>
+    requires { length bytes.now ≡ 4096 }
+    ensures leads { (number : ℕ) → IsForm Kind.Inner number bytes.now → BeginsWithZero (pairs_in Kind.Inner bytes.now)
+        → LeadsTo (pairs_in Kind.Inner bytes.now) (key_in key) result }
+    ensures small { IfOk result (λ way. way.place < 2 ^ 16) }
+    ensures damaged { IfErr result (λ fault. fault ≡ PageFault.Damaged page) }
+{
+    if !is_shaped(bytes, Kind::Inner) {
+        return Err(PageFault::Damaged(page));
+    }
+    if count_of(bytes) == 0 {
+        return Err(PageFault::Damaged(page));
+    }
+    let next = first_above(bytes, Kind::Inner, 1, key);
+    Ok(Way {
+        place: next - 1,
+        child: child_at(bytes, next - 1),
+    })
+}
+
+/// The value of the key in a leaf with these bytes.
+pub fn value_in(bytes: &[u8], page: u32, key: Key) -> Result<Option<u64>, PageFault>
+    requires { length bytes.now ≡ 4096 }
+    ensures found { (number low high : ℕ) → IsForm Kind.Leaf number bytes.now → Within low high (pairs_in Kind.Leaf bytes.now)
+        → low ≤ key_in key → key_in key < high → IsGot (lookup (key_in key) (pairs_in Kind.Leaf bytes.now)) result }
+    ensures damaged { IfErr result (λ fault. fault ≡ PageFault.Damaged page) }
+{
+    if !is_shaped(bytes, Kind::Leaf) {
+        return Err(PageFault::Damaged(page));
+    }
+    let next = first_above(bytes, Kind::Leaf, 0, key);
+    if next == 0 {
+        return Ok(None);
+    }
+    if key_at(bytes, Kind::Leaf, next - 1).is_below(key) {
+        return Ok(None);
+    }
+    Ok(Some(value_at(bytes, Kind::Leaf, next - 1)))
+}
