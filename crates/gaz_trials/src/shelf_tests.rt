@@ -1,9 +1,11 @@
 //! Shelves read back, in memory and over a folder. A test over a folder removes what it wrote.
 ghost use Rattle.std.specs.Prelude.{◌≤◌, length};
 
-use gaz_outside::{DirShelf, Failed, MemShelf, Shelf};
+use gaz_outside::{Area, DirShelf, Failed, FileStation, MemShelf, Shelf, Station};
 use std::alloc::{AllocError, Global};
 use std::fs;
+use std::fs::OpenOptions;
+use std::os::unix::fs::FileExt;
 use std::process::Abort;
 use std::test::Fail;
 
@@ -138,5 +140,41 @@ fn nine_open_files_are_too_many(rt: HostRuntime) -> Result<(), Fail> {
     shelf.close_all();
     read_parts(&rt, alloc, &mut shelf, "nine.txt", ABCDEF)?;
     fs::remove_file(&rt, "nine.txt")?;
+    Ok(())
+}
+
+/// Five GiB, of which nothing but the end is on the disk.
+const FAR: u64 = 5 << 30;
+
+#[test]
+fn bytes_behind_4_gib_are_read(rt: HostRuntime) -> Result<(), Fail> {
+    let file = OpenOptions::new()
+        .write(true)
+        .create(true)
+        .open(&rt, "far.txt")?;
+    file.write_all_at(b"end", FAR)?;
+    let mut shelf = DirShelf::new(&rt);
+    read_parts(
+        &rt,
+        rt.alloc(),
+        &mut shelf,
+        "far.txt",
+        &[(FAR, 9, b"end"), (FAR - 1, 2, b"\0e"), (FAR + 3, 9, b"")],
+    )?;
+    fs::remove_file(&rt, "far.txt")?;
+    Ok(())
+}
+
+#[test]
+fn areas_behind_4_gib_are_read_back(rt: HostRuntime) -> Result<(), Fail> {
+    let mut station = FileStation::new(&rt);
+    assert_eq!(rt; station.write_at(Area::Left, FAR, b"end"), Ok(()));
+    assert_eq!(rt; station.len(Area::Left), Ok(FAR + 3));
+    let mut buf = [0; 4];
+    assert_eq!(rt; station.read_at(Area::Left, FAR - 1, &mut buf), Ok(4));
+    assert_eq!(rt; &buf, b"\0end");
+    for name in ["mirror.mark", "mirror.left"] {
+        fs::remove_file(&rt, name)?;
+    }
     Ok(())
 }
