@@ -1,5 +1,6 @@
 pub mod Back
 pub mod Mirrored
 pub mod Opened
+pub mod Opening
 pub mod Parsed
 mod Examples

@@ -1,16 +1,24 @@
 -- What an opening finds, and what it leaves.
-use Rattle.std.specs.Prelude.{◌≡◌, ◌⊎◌, ◌<◌, ◌≤◌, ℕ, true, false, List, length, Option, Some, None, Result, Err}
+use Rattle.std.specs.Prelude.{◌≡◌, ◌⊎◌, ◌<◌, ◌≤◌, ◌+◌, ℕ, true, false, IsTrue, List, length, Option, Some, None, Result, Err}
 use Rattle.gaz_outside.specs.declared.station.Area.{Area}
 use Rattle.gaz_outside.specs.declared.station.Area.TheVariants as area
 use Rattle.gaz_outside.specs.Outside.{RisesOnce}
-use Rattle.gaz_outside.specs.Station.{StationView, pieces}
+use Rattle.gaz_outside.specs.Station.{StationView, Confined, LeavesOnly, pieces}
 use Rattle.gaz_redo.specs.Content.{Contents, content, is_log, is_open}
 use Rattle.gaz_redo.specs.Form.{IsInForm}
-use Rattle.gaz_redo.specs.Recovered.{AllStable}
+use Rattle.gaz_redo.specs.Slots.{SameBytes}
+use Rattle.gaz_redo.specs.Recovered.{AllStable, OnlyRise, SlotsToRedo}
+use Rattle.gaz_plain.specs.Gazetteer.{Gazetteer}
+use Rattle.gaz_page.specs.declared.page.Side.{Side}
 use Rattle.gaz_page.specs.declared.root.PlainRoot.{PlainRoot}
 use Rattle.gaz_page.specs.Root.{root_in}
 use Rattle.gaz_open.specs.declared.find.Found.{Found}
 use Rattle.gaz_open.specs.declared.find.Found.TheVariants.{Empty, Named, NotARoot}
+use Rattle.gaz_open.specs.Content.{Mirrors}
+use Rattle.gaz_open.specs.Holds.{AllHold, HasNone, IsFound}
+use Rattle.gaz_open.specs.Fits.{Fits}
+use Rattle.gaz_open.specs.declared.fault.Place.{Place}
+use Rattle.gaz_open.specs.declared.fault.Place.TheVariants.{Log, Root}
 use Rattle.gaz_open.specs.declared.fault.OpenFault.{OpenFault}
 use Rattle.gaz_open.specs.declared.fault.OpenFault.TheVariants.{Station}
 
@@ -52,3 +60,31 @@ Finds NotARoot bytes = (4096 ≤ length bytes) × (root_in bytes ≡ None)
 abbrev pub FailsOnce : {A : Type 0} → ℕ → ℕ → Result A OpenFault → Type 0
 FailsOnce before now (Err Station) = RisesOnce before now
 FailsOnce before now other = now ≡ before
+
+-- An opening, or the first part of one: at every moment some outcome of its beginning stands, and nothing is printed. It writes at
+-- most the slots to redo and the gate. Where nothing is to be redone it writes nothing: no byte and no outcome changes, at no moment.
+pub record IsOpening (old new : StationView) : Type 0 where
+  pub counts : OnlyRise old new
+  pub moments : IsTrue old.is_told → LeavesOnly old new (IsFound old)
+  pub printed : IsTrue old.is_told → new.printed ≡ old.printed
+  pub writes : IsTrue old.is_told → (slots : ℕ) → SlotsToRedo old slots → new.writes ≤ old.writes + slots + 1
+  pub untouched : IsTrue old.is_told → NothingToRedo old.bytes → Confined SameBytes old new
+  pub unwritten : IsTrue old.is_told → NothingToRedo old.bytes → new.writes ≡ old.writes
+
+-- What opened is the gazetteer that the areas mirror. The gate is closed then, nothing is pending, and Root says where the text is.
+pub record HasOpened (gaz : Gazetteer) (side : Option Side) (old new : StationView) : Type 0 where
+  pub mirrors : Mirrors old.bytes gaz
+  pub fits : Fits side new
+  pub stable : AllStable new
+  pub now : AllHold new gaz
+
+-- The log is to blame where the gate is open over a log that isn't in form, and Root only where it isn't so.
+abbrev pub IsToBlame : Place → (Area → List ℕ) → Type 0
+IsToBlame Log areas = HasNoLog areas
+IsToBlame Root areas = HasLog areas
+
+-- The areas mirror no gazetteer, nor do all outcomes have one, and this place is to blame.
+pub record IsNoMirror (place : Place) (v : StationView) : Type 0 where
+  pub none : (gaz : Gazetteer) → Mirrors v.bytes gaz → ⊥
+  pub nowhere : HasNone v
+  pub blamed : IsToBlame place v.bytes

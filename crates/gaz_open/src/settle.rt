@@ -1,11 +1,10 @@
 //! The first half of an opening: the areas are synced, and a stop is recovered from.
 ghost use Rattle.std.specs.Prelude.{◌≡◌, ◌≤◌, ◌+◌, ◌*◌, ℕ, true, false, IsTrue, IfOk, OnOk};
 ghost use Rattle.gaz_outside.specs.Outside.{HasCause};
-ghost use Rattle.gaz_outside.specs.Station.{Confined, Counts, LeavesOnly};
+ghost use Rattle.gaz_outside.specs.Station.{Confined, Counts};
 ghost use Rattle.gaz_redo.specs.Slots.{SameBytes};
-ghost use Rattle.gaz_redo.specs.Recovered.{AllStable, OnlyRise, SlotsToRedo};
-ghost use Rattle.gaz_open.specs.Holds.{IsFound};
-ghost use Rattle.gaz_open.specs.Opens.{HasLog, HasNoLog, IsSettled, NothingToRedo};
+ghost use Rattle.gaz_redo.specs.Recovered.{AllStable, SlotsToRedo};
+ghost use Rattle.gaz_open.specs.Opens.{HasLog, HasNoLog, IsOpening, IsSettled};
 
 use gaz_outside::{Area, Failed, Station};
 use gaz_redo::{Recovered, RedoFault, recover};
@@ -26,18 +25,12 @@ fn sync_all<T: Station>(station: &mut T) -> Result<(), Failed>
 }
 
 /// Syncs the areas and recovers from a stop. `false` says that the gate is open over a log that isn't in form.
-/// At every moment some outcome of the beginning stands, and nothing is printed.
 pub(crate) fn settle<T: Station>(station: &mut T) -> Result<bool, Failed>
     ensures settled { IfOk result (λ ok. IsTrue (T.view station.old).is_told → ok ≡ true → IsSettled (T.view station.old) (T.view station.new)) }
     ensures log { IfOk result (λ ok. IsTrue (T.view station.old).is_told → ok ≡ true → HasLog (T.view station.old).bytes) }
     ensures no_log { IfOk result (λ ok. IsTrue (T.view station.old).is_told → ok ≡ false → HasNoLog (T.view station.old).bytes) }
-    ensures moments { IsTrue (T.view station.old).is_told → LeavesOnly (T.view station.old) (T.view station.new) (IsFound (T.view station.old)) }
-    ensures printed { IsTrue (T.view station.old).is_told → (T.view station.new).printed ≡ (T.view station.old).printed }
+    ensures opening { IsOpening (T.view station.old) (T.view station.new) }
     ensures reads { IsTrue (T.view station.old).is_told → (slots : ℕ) → SlotsToRedo (T.view station.old) slots → (T.view station.new).reads ≤ (T.view station.old).reads + 8 * (slots + 1) }
-    ensures writes { IsTrue (T.view station.old).is_told → (slots : ℕ) → SlotsToRedo (T.view station.old) slots → (T.view station.new).writes ≤ (T.view station.old).writes + slots + 1 }
-    ensures untouched { IsTrue (T.view station.old).is_told → NothingToRedo (T.view station.old).bytes → Confined SameBytes (T.view station.old) (T.view station.new) }
-    ensures unwritten { IsTrue (T.view station.old).is_told → NothingToRedo (T.view station.old).bytes → (T.view station.new).writes ≡ (T.view station.old).writes }
-    ensures counts { OnlyRise (T.view station.old) (T.view station.new) }
     ensures cause { HasCause (T.view station.old).faults (T.view station.new).faults result }
 {
     sync_all(station)?;

@@ -8,11 +8,10 @@ use Rattle.std.proofs.lemmas.Bool.{false≢true}
 use Rattle.std.proofs.lemmas.List.{append-nil}
 use Rattle.std.proofs.Transfers.{drop-appended}
 use Rattle.gaz_outside.specs.Outside.{ShelfView, StationView, HasRisen, RisesOnce, printed_of}
-use Rattle.gaz_outside.specs.Station.{Confined, LeavesOnly}
+use Rattle.gaz_outside.specs.Station.{LeavesOnly}
 use Rattle.gaz_outside.proofs.Runs.{goes_far, leaves_weaker}
-use Rattle.gaz_redo.specs.Slots.{SameBytes}
-use Rattle.gaz_open.specs.Holds.{AllHold, IsFound}
-use Rattle.gaz_open.specs.Opens.{NothingToRedo}
+use Rattle.gaz_open.specs.Holds.{AllHold}
+use Rattle.gaz_open.specs.Opens.{IsOpening, NothingToRedo}
 use Rattle.gaz_open.proofs.Opened.{same_nothing, found_still}
 use Rattle.gaz_reply.proofs.Pieces.{append_none}
 use Rattle.gaz_reply.proofs.Cuts.{printed_whole}
@@ -124,19 +123,11 @@ run_unopened first bytes view entry exit status fits why printed keeps unwritten
   unanswering = λ is. refl;
 }
 
--- what an opening leaves
-pub record IsOpening (entry mid : StationView) : Type 0 where
-  pub told : mid.is_told ≡ entry.is_told
-  pub printed : IsTrue entry.is_told → mid.printed ≡ entry.printed
-  pub moments : IsTrue entry.is_told → LeavesOnly entry mid (IsFound entry)
-  pub untouched : IsTrue entry.is_told → NothingToRedo entry.bytes → Confined SameBytes entry mid
-  pub unwritten : IsTrue entry.is_told → NothingToRedo entry.bytes → mid.writes ≡ entry.writes
-
 -- a run that begins with an opening
 abbrev pub run_opened : (first : State) (bytes bytes_now : Option (List ℕ)) (view view_now : ShelfView) (entry mid exit : StationView) (status : ℕ) → IsOpening entry mid → (IsTrue entry.is_told → AllHold mid first.gaz)
     → RunAnswers first bytes bytes_now view view_now mid exit status → RunAnswers first bytes bytes_now view view_now entry exit status
 run_opened first bytes bytes_now view view_now entry mid exit status opened holds run =
-    let still : IsTrue entry.is_told → IsTrue mid.is_told = λ told. subst (λ (b : Bool). IsTrue b) (sym opened.told) told in
+    let still : IsTrue entry.is_told → IsTrue mid.is_told = λ told. subst (λ (b : Bool). IsTrue b) (sym opened.counts.told) told in
     record {
       given = run.given;
       turns = run.turns;
@@ -148,7 +139,7 @@ run_opened first bytes bytes_now view view_now entry mid exit status opened hold
       causes = run.causes;
       last_cause = run.last_cause;
       text = run.text;
-      text_is = run.text_is ∙ ap (λ known. append_known known run.text) (same_printed entry mid opened.told opened.printed);
+      text_is = run.text_is ∙ ap (λ known. append_known known run.text) (same_printed entry mid opened.counts.told opened.printed);
       whole = run.whole;
       cut = run.cut;
       keeps = λ told all. from_open first.gaz entry mid exit run.turns status (leaves_weaker entry mid _ _ (λ c found. found_still entry first.gaz c all found) (opened.moments told)) (opened.printed told) (run.keeps (still told) (holds told));
@@ -168,7 +159,7 @@ module _ (first : State) (bytes bytes_now : Option (List ℕ)) (shelf shelf_now 
     (run : RunAnswers first bytes bytes_now shelf shelf_now mid exit status)
   where
     kept : IsTrue entry.is_told → Keeps (record { first = first; turns = run.turns }) mid exit status
-    kept told = run.keeps (subst (λ (b : Bool). IsTrue b) (sym opening.told) told) (holds told)
+    kept told = run.keeps (subst (λ (b : Bool). IsTrue b) (sym opening.counts.told) told) (holds told)
 
     pub stops_opened : IsTrue entry.is_told → LeavesOnly entry exit (IsFoundOrStop (record { first = first; turns = run.turns }) entry)
     stops_opened told =
@@ -178,7 +169,7 @@ module _ (first : State) (bytes bytes_now : Option (List ℕ)) (shelf shelf_now 
     pub exit_opened : exit.is_told ≡ mid.is_told → IsTrue entry.is_told → IsExit (record { first = first; turns = run.turns }) exit run.text status
     exit_opened same told =
         let keeps = kept told in
-        let here = subst (λ (b : Bool). IsTrue b) (sym opening.told) told in
+        let here = subst (λ (b : Bool). IsTrue b) (sym opening.counts.told) told in
         let whole = printed_whole run.text mid exit here same run.text_is in
         let texts : keeps.text ≡ run.text = sym (drop-appended mid.printed exit.printed keeps.text keeps.printed) ∙ drop-appended mid.printed exit.printed run.text whole in
         record {

@@ -8,18 +8,20 @@ use Rattle.gaz_redo.specs.Slots.{SameBytes}
 use Rattle.gaz_plain.specs.Gazetteer.{Gazetteer}
 use Rattle.gaz_open.specs.Content.{Mirrors}
 use Rattle.gaz_open.specs.Holds.{IsFound}
+use Rattle.gaz_open.specs.Opens.{IsOpening}
 use Rattle.gaz_turns.proofs.Told.{same_printed}
 use Rattle.gaz_turns.proofs.Underway.{ends_early}
 use Rattle.gaz_serve.specs.Ran.{IsUnopened, ServeRan}
-use Rattle.gaz_serve.proofs.Answered.{IsOpening, answered, run_unopened, unlike}
+use Rattle.gaz_serve.proofs.Answered.{answered, run_unopened, unlike}
 use Rattle.gaz_serve.proofs.Taken.{taken_nothing}
 use Rattle.gaz_serve.proofs.Telling.{tells_unopened}
 
 -- no call yet
 pub opens_nothing : (v : StationView) → ((c : Outcome) → IsTrue v.is_told → v.left_since v.moment c → Leaves v c) → IsOpening v v
 opens_nothing v only = record {
-  told = refl;
+  counts = record { told = refl; faults = omega arith; reads = omega arith; writes = omega arith };
   printed = λ told. refl;
+  writes = λ told slots redo. omega arith;
   moments = λ told. begins v (IsFound v) (λ c left. let now = only c told left in (c, now, λ gaz. (λ m. m, λ m. m), now.text));
   untouched = λ told nothing. confined_start SameBytes (λ a d. refl) v (λ c left. only c told left);
   unwritten = λ told nothing. refl;
@@ -42,7 +44,7 @@ module _ {S F T : Type 0} (source : S → SourceView) (shelf : F → ShelfView) 
       → (status ≡ 3 → RisesOnce (station old).faults (station new).faults) → (status ≢ 3 → (station new).faults ≡ (station old).faults)
       → ServeRan source shelf station s s f f old new status
   ran_unopened status why fits opening counts none failed kept =
-      let printed = same_printed (station old) (station new) opening.told opening.printed in
+      let printed = same_printed (station old) (station new) opening.counts.told opening.printed in
       let unopened : IsUnopened s s f f (station old) (station new) status = record { why = why; source = refl; shelf = refl; printed = printed } in
       record {
         answers = λ told shelf_told first mirrors.
@@ -62,9 +64,9 @@ module _ {S F T : Type 0} (source : S → SourceView) (shelf : F → ShelfView) 
         station_kept = kept;
         source_failed = λ is. no_status status 4 why (inr refl) is;
         source_kept = λ is. refl;
-        told = opening.told;
+        told = opening.counts.told;
         others = of_all status why;
       }
     where
       still : IsTrue (station old).is_told → IsTrue (station new).is_told
-      still told = subst (λ (b : Bool). IsTrue b) (sym opening.told) told
+      still told = subst (λ (b : Bool). IsTrue b) (sym opening.counts.told) told

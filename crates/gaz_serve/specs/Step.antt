@@ -1,11 +1,13 @@
 -- What one request does, in the program.
-use Rattle.std.specs.Prelude.{◌⊎◌, ⊤, ℕ, List, Option, Some, None, Result, Ok, Err}
-use Rattle.gaz_outside.specs.Outside.{ShelfView, StationView, Prints}
+use Rattle.std.specs.Prelude.{◌≡◌, ◌⊎◌, ⊤, ℕ, List, Option, Some, None, Result, Ok, Err}
+use Rattle.gaz_outside.specs.Outside.{ShelfView, StationView, HasCause, Prints}
+use Rattle.gaz_outside.specs.Station.{AreasStay}
 use Rattle.gaz_num.specs.declared.words.FileName.{FileName}
 use Rattle.gaz_num.specs.Refusal as refusal
 use Rattle.gaz_plain.specs.Gazetteer.{Gazetteer}
 use Rattle.gaz_plain.specs.Load.{Files}
 use Rattle.gaz_reply.specs.declared.reply.Done.{Done}
+use Rattle.gaz_reply.specs.Tells.{MayBeCut}
 use Rattle.gaz_reply.specs.Reply.{Reply, done, rows, refused, reply_text}
 use Rattle.gaz_serve.specs.declared.change.ChangeFault.{ChangeFault}
 use Rattle.gaz_serve.specs.Change.{IsUnblamed, FailedAt, Closes, refusal_by}
@@ -13,6 +15,17 @@ use Rattle.gaz_turns.specs.Turns.{State, Answer, made, same_state, Verdict, plai
 use Rattle.gaz_turns.specs.Steps.{IsGiven}
 use Rattle.gaz_words.specs.declared.request.Request.{Request}
 use Rattle.gaz_words.specs.Grammar.{request_in}
+
+-- The station tells as before, and its count of faults says whether the call failed.
+pub record Reports {A E : Type 0} (old new : StationView) (result : Result A E) : Type 0 where
+  pub told : new.is_told ≡ old.is_told
+  pub cause : HasCause old.faults new.faults result
+
+-- A reply is printed, or a front of it where the station failed. The areas stay, with what a stop may leave of them.
+pub record Replies {A E : Type 0} (reply : Reply) (old new : StationView) (result : Result A E) : Type 0 where
+  pub printed : Prints (reply_text reply) old new result
+  pub moments : MayBeCut (reply_text reply) old new
+  pub areas : AreasStay old new
 
 -- What a change made is stored and told, or memory was wanting to store it; or it is told why the change is refused.
 abbrev pub Finishes : {A E : Type 0} → Done → Result Gazetteer ChangeFault → State → StationView → StationView → Result A E → Type 0

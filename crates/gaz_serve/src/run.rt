@@ -1,14 +1,13 @@
 //! A run of requests, one line of the source after another.
 ghost use Rattle.std.specs.Prelude.{◌≡◌, ◌≢◌, ◌⊎◌, ◌^◌, ◌∷◌, [], IsTrue, IfOk, IfSome, codes, vec_len};
-ghost use Rattle.gaz_outside.specs.Outside.{HasCause, Prints, RisesOnce, SameNumbers, NoneOpen, left_of};
-ghost use Rattle.gaz_outside.specs.Station.{AreasStay};
+ghost use Rattle.gaz_outside.specs.Outside.{RisesOnce, SameNumbers, NoneOpen, left_of};
 ghost use Rattle.gaz_num.specs.Refusal.{request};
 ghost use Rattle.gaz_lines.specs.Cutter.{line_limit_of, file_limit_of, IsFresh};
 ghost use Rattle.gaz_open.specs.Content.{Mirrors};
-ghost use Rattle.gaz_reply.specs.Reply.{reply_text, refused};
-ghost use Rattle.gaz_reply.specs.Tells.{MayBeCut};
+ghost use Rattle.gaz_reply.specs.Reply.{refused};
 ghost use Rattle.gaz_turns.specs.Turns.{State};
 ghost use Rattle.gaz_serve.specs.Session.{IsOpen};
+ghost use Rattle.gaz_serve.specs.Step.{Replies, Reports};
 ghost use Rattle.gaz_serve.specs.Ran.{RunAnswers, TellShelf};
 ghost use Rattle.gaz_serve.specs.Serve.{Taken};
 
@@ -21,11 +20,8 @@ use gaz_words::BadRequest;
 
 /// Answers a request line that is longer than the longest.
 fn refuse_long<T: Station>(station: &mut T) -> Result<(), EndFault>
-    ensures printed { Prints (reply_text (refused (request (codes "length")))) (T.view station.old) (T.view station.new) result }
-    ensures moments { MayBeCut (reply_text (refused (request (codes "length")))) (T.view station.old) (T.view station.new) }
-    ensures told { (T.view station.new).is_told ≡ (T.view station.old).is_told }
-    ensures areas { AreasStay (T.view station.old) (T.view station.new) }
-    ensures cause { HasCause (T.view station.old).faults (T.view station.new).faults result }
+    ensures replies { Replies (refused (request (codes "length"))) (T.view station.old) (T.view station.new) result }
+    ensures reports { Reports (T.view station.old) (T.view station.new) result }
 {
     match write_refusal(station, &Refusal::Request(BadRequest::Length.word())) {
         Ok(()) => Ok(()),

@@ -1,27 +1,26 @@
 //! A session: the gazetteer of an open mirror, the side of its text, and the buffer by which files are read.
 ghost use Rattle.std.specs.Prelude.{◌≡◌, ◌⊎◌, ◌∷◌, [], Ok, None, IsTrue, IfOk, IfErr, IfSome, IsSome, OnOk, option_to_list};
-ghost use Rattle.gaz_outside.specs.Outside.{HasCause, files_of};
-ghost use Rattle.gaz_outside.specs.Station.{Confined, LeavesOnly};
+ghost use Rattle.gaz_outside.specs.Outside.{files_of};
 ghost use Rattle.gaz_num.specs.Refusal.{memory};
 ghost use Rattle.gaz_num.specs.declared.words.Table.TheVariants.{Rows};
 ghost use Rattle.gaz_plain.specs.Gazetteer.{Gazetteer, line_with};
 ghost use Rattle.gaz_plain.specs.Load.{load, day, load_files, in_sequence};
-ghost use Rattle.gaz_redo.specs.Slots.{SameBytes};
 ghost use Rattle.gaz_open.specs.Content.{Mirrors};
-ghost use Rattle.gaz_open.specs.Holds.{AllHold, IsFound};
-ghost use Rattle.gaz_open.specs.Opens.{FailsOnce, HasLog, HasNoLog, NothingToRedo};
+ghost use Rattle.gaz_open.specs.Holds.{AllHold};
+ghost use Rattle.gaz_open.specs.Opens.{FailsOnce, IsNoMirror, IsOpening};
+ghost use Rattle.gaz_open.specs.declared.fault.Place.{Place};
 ghost use Rattle.gaz_reply.specs.Reply.{refused, rows};
 ghost use Rattle.gaz_turns.specs.Turns.{day_opens, if_loaded, same_state, made};
 ghost use Rattle.gaz_turns.specs.Steps.{IsGiven};
 ghost use Rattle.gaz_serve.specs.Change.{Blamed, BlamesReached, Closes, Gives};
 ghost use Rattle.gaz_serve.specs.Session.{IsOpen, state_of};
-ghost use Rattle.gaz_serve.specs.Step.{Finishes};
+ghost use Rattle.gaz_serve.specs.Step.{Finishes, Reports};
 
 use crate::change::{ChangeFault, follow, loaded, next_gazetteer};
 use crate::tell::tell_found;
 use gaz_lines::LineCutter;
 use gaz_num::Day;
-use gaz_open::{OpenFault, Place, open_plain};
+use gaz_open::{OpenFault, open_plain};
 use gaz_outside::{Failed, Shelf, Station};
 use gaz_page::Side;
 use gaz_plain::PlainGaz;
@@ -67,18 +66,10 @@ impl Session {
         ensures holds { OnOk result (IsTrue (T.view station.old).is_told → (gaz : Gazetteer) → Mirrors (T.view station.old).bytes gaz → AllHold (T.view station.new) gaz) }
 
         // A stop at any moment leaves a gazetteer that some outcome had when it began: the one that was there, if all had one.
-        ensures moments { IsTrue (T.view station.old).is_told → LeavesOnly (T.view station.old) (T.view station.new) (IsFound (T.view station.old)) }
-        ensures printed { IsTrue (T.view station.old).is_told → (T.view station.new).printed ≡ (T.view station.old).printed }
+        ensures opening { IsOpening (T.view station.old) (T.view station.new) }
 
-        // It says that there is no mirror only where the areas have no gazetteer, and which of the log and Root is to blame.
-        ensures none { IfErr result (λ why. IsTrue (T.view station.old).is_told → (place : _) → why ≡ OpenFault.NotAMirror place → (gaz : Gazetteer) → Mirrors (T.view station.old).bytes gaz → ⊥) }
-        ensures log { IfErr result (λ why. IsTrue (T.view station.old).is_told → why ≡ OpenFault.NotAMirror Place.Log → HasNoLog (T.view station.old).bytes) }
-        ensures root { IfErr result (λ why. IsTrue (T.view station.old).is_told → why ≡ OpenFault.NotAMirror Place.Root → HasLog (T.view station.old).bytes) }
-
-        // Where nothing is to be redone, nothing is written.
-        ensures untouched { IsTrue (T.view station.old).is_told → NothingToRedo (T.view station.old).bytes → Confined SameBytes (T.view station.old) (T.view station.new) }
-        ensures unwritten { IsTrue (T.view station.old).is_told → NothingToRedo (T.view station.old).bytes → (T.view station.new).writes ≡ (T.view station.old).writes }
-        ensures told { (T.view station.new).is_told ≡ (T.view station.old).is_told }
+        // It says that there is no mirror only where the areas mirror none, and which of the log and Root is to blame.
+        ensures none { IfErr result (λ why. IsTrue (T.view station.old).is_told → (place : Place) → why ≡ OpenFault.NotAMirror place → IsNoMirror place (T.view station.old)) }
         ensures cause { FailsOnce (T.view station.old).faults (T.view station.new).faults result }
     {
         let cutter = match LineCutter::new(alloc, LINE_LIMIT, FILE_LIMIT) {
@@ -147,8 +138,7 @@ impl Session {
         ensures given { IsGiven (made change gaz) (state_of self.old) (T.view station.old) (T.view station.new) result
             ⊎ IsGiven (same_state (state_of self.old) (refused memory)) (state_of self.old) (T.view station.old) (T.view station.new) result }
         ensures open { OnOk result (IsOpen self.new (T.view station.new)) }
-        ensures told { (T.view station.new).is_told ≡ (T.view station.old).is_told }
-        ensures cause { HasCause (T.view station.old).faults (T.view station.new).faults result }
+        ensures reports { Reports (T.view station.old) (T.view station.new) result }
     {
         match store(self.alloc, station, self.side, &gaz) {
             Ok(side) => {
@@ -172,8 +162,7 @@ impl Session {
         requires open { IsOpen self.old (T.view station.old) }
         ensures finishes { Finishes change made (state_of self.old) (T.view station.old) (T.view station.new) result }
         ensures open { OnOk result (IsOpen self.new (T.view station.new)) }
-        ensures told { (T.view station.new).is_told ≡ (T.view station.old).is_told }
-        ensures cause { HasCause (T.view station.old).faults (T.view station.new).faults result }
+        ensures reports { Reports (T.view station.old) (T.view station.new) result }
     {
         match made {
             Ok(gaz) => self.keep(station, change, gaz),
@@ -185,8 +174,7 @@ impl Session {
     pub(crate) fn tell_place<T: Station>(&self, station: &mut T, id: u32) -> Result<(), Failed>
         ensures given { IsGiven (same_state (state_of self.now) (if_loaded (state_of self.now) (rows (option_to_list (line_with Rows (id ∷ []) self.now.lines))))) (state_of self.now) (T.view station.old) (T.view station.new) result }
         ensures open { IsOpen self.now (T.view station.old) → IsOpen self.now (T.view station.new) }
-        ensures told { (T.view station.new).is_told ≡ (T.view station.old).is_told }
-        ensures cause { HasCause (T.view station.old).faults (T.view station.new).faults result }
+        ensures reports { Reports (T.view station.old) (T.view station.new) result }
     {
         match self.gaz.date() {
             None => write_refusal(station, &Refusal::NotLoaded),

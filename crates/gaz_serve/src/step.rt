@@ -1,12 +1,12 @@
 //! One request is one step: it is read, met, and its reply is printed.
-ghost use Rattle.std.specs.Prelude.{◌≡◌, List, Ok, IsTrue, IfSome, OnOk};
-ghost use Rattle.gaz_outside.specs.Outside.{HasCause, files_of};
+ghost use Rattle.std.specs.Prelude.{List, Ok, IsTrue, IfSome, OnOk};
+ghost use Rattle.gaz_outside.specs.Outside.{files_of};
 ghost use Rattle.gaz_num.specs.declared.words.FileName.{FileName};
 ghost use Rattle.gaz_open.specs.Content.{Mirrors};
 ghost use Rattle.gaz_turns.specs.Turns.{State, opens};
 ghost use Rattle.gaz_serve.specs.Change.{Closes};
 ghost use Rattle.gaz_serve.specs.Session.{IsOpen, state_of};
-ghost use Rattle.gaz_serve.specs.Step.{Meets, OneStep, TellsShelf};
+ghost use Rattle.gaz_serve.specs.Step.{Meets, OneStep, Reports, TellsShelf};
 
 use crate::session::Session;
 use gaz_outside::{Failed, Shelf, Station};
@@ -32,8 +32,7 @@ fn answer_request<F: Shelf, T: Station>(
     ensures tells { TellsShelf (F.view shelf.old) (F.view shelf.new) (T.view station.old) (T.view station.new) result }
     ensures open { OnOk result (IsOpen session.new (T.view station.new)) }
     ensures closes { Closes (opens (state_of session.old) (Ok request.now)) (F.view shelf.old) (F.view shelf.new) }
-    ensures told { (T.view station.new).is_told ≡ (T.view station.old).is_told }
-    ensures cause { HasCause (T.view station.old).faults (T.view station.new).faults result }
+    ensures reports { Reports (T.view station.old) (T.view station.new) result }
 {
     match request {
         Request::Load(date) => {
@@ -69,8 +68,7 @@ pub fn answer<F: Shelf, T: Station>(
 
     // After `Ok` the session has open what the areas mirror then.
     ensures open { OnOk result (IsOpen session.new (T.view station.new)) }
-    ensures told { (T.view station.new).is_told ≡ (T.view station.old).is_told }
-    ensures cause { HasCause (T.view station.old).faults (T.view station.new).faults result }
+    ensures reports { Reports (T.view station.old) (T.view station.new) result }
 {
     let told = match read_request(line) {
         Ok(request) => answer_request(session, shelf, station, &request),

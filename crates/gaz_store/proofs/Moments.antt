@@ -146,8 +146,10 @@ module _ (side : Option Side) (day : ℕ) (next : Gazetteer) (image : List ℕ) 
         let shut : is_open (from area.Mark) ≡ false = ap is_open (ready_then.mark (from area.Mark) (either.was area.Mark)) ∙ ready_then.closed in (
           ⊎_elim
               (λ same. inl (record { is = of_contents c.areas (three from) same ∙ sym (mirror_closed from shut) ∙ old }))
-              (λ new. inr (record { is = of_contents c.areas (laid (root_slot image ∷ []) (three from)) new
-              ∙ next_read (laid (root_slot image ∷ []) (three from)) (from area.Root) refl (laid_side (idle_of side) (three from) ∙ idle_now from either.was) }))
+              (λ new. inr (record {
+                is = of_contents c.areas (laid (root_slot image ∷ []) (three from)) new
+                    ∙ next_read (laid (root_slot image ∷ []) (three from)) (from area.Root) refl (laid_side (idle_of side) (three from) ∙ idle_now from either.was);
+              }))
               either.content,
           either.text ∙ run.printed,
         )
@@ -175,7 +177,7 @@ module _ (side : Option Side) (day : ℕ) (next : Gazetteer) (image : List ℕ) 
           let root = done.outcomes area.Root (c.areas area.Root) (omega arith) (leaves.areas area.Root) in
           record {
             is = mirror_closed c.areas shut
-            ∙ next_read (three c.areas) root.0 root.2 (side_three (idle_of side) c.areas ∙ idle_after (c.areas (side_area (idle_of side))) (leaves.areas (side_area (idle_of side))));
+                ∙ next_read (three c.areas) root.0 root.2 (side_three (idle_of side) c.areas ∙ idle_after (c.areas (side_area (idle_of side))) (leaves.areas (side_area (idle_of side))));
           }
 
       bytes_after : (s : Side) → v2.bytes (side_area s) ≡ v1.bytes (side_area s)

@@ -1,12 +1,8 @@
 //! A gazetteer is stored: its text goes into the idle area, and then the root page that names it is committed.
-ghost use Rattle.std.specs.Prelude.{◌≡◌, Err, Some, IsTrue, IsSome, IfOk, OnOk};
+ghost use Rattle.std.specs.Prelude.{◌≡◌, Err, IsTrue, IsSome, IfOk};
 ghost use Rattle.gaz_outside.specs.Outside.{HasCause};
-ghost use Rattle.gaz_outside.specs.Station.{LeavesOnly};
-ghost use Rattle.gaz_plain.specs.Gazetteer.{Gazetteer};
-ghost use Rattle.gaz_redo.specs.Recovered.{AllStable, OnlyRise};
-ghost use Rattle.gaz_open.specs.Holds.{AllHold, IsOldOrNext};
 ghost use Rattle.gaz_open.specs.Fits.{Fits, idle_of};
-ghost use Rattle.gaz_store.specs.Stores.{FailsOnce, NamesText};
+ghost use Rattle.gaz_store.specs.Stores.{FailsOnce, NamesText, Stores};
 
 use crate::StoreFault;
 use crate::root::root_images;
@@ -27,12 +23,7 @@ fn write_both<T: Station>(
 ) -> Result<(), Failed>
     requires root { NamesText (idle_of side) gaz.now images.now }
     requires fits { IsTrue (T.view station.old).is_told → Fits side (T.view station.old) }
-    ensures printed { IsTrue (T.view station.old).is_told → (T.view station.new).printed ≡ (T.view station.old).printed }
-    ensures moments { IsTrue (T.view station.old).is_told → (first : Gazetteer) → AllHold (T.view station.old) first
-        → LeavesOnly (T.view station.old) (T.view station.new) (IsOldOrNext first gaz.now (T.view station.old)) }
-    ensures committed { OnOk result (IsTrue (T.view station.old).is_told → AllHold (T.view station.new) gaz.now) }
-    ensures fits { OnOk result (IsTrue (T.view station.old).is_told → Fits (Some (idle_of side)) (T.view station.new)) }
-    ensures counts { OnlyRise (T.view station.old) (T.view station.new) }
+    ensures stores { Stores side gaz.now (T.view station.old) (T.view station.new) result }
     ensures cause { HasCause (T.view station.old).faults (T.view station.new).faults result }
 {
     write_text(station, area_of(idle_side(side)), gaz)?;
@@ -53,18 +44,11 @@ pub fn store<T: Station>(
     requires fits { IsTrue (T.view station.old).is_told → Fits side (T.view station.old) }
     ensures side { IfOk result (λ now. now ≡ idle_of side) }
 
-    // A stop at any moment leaves the old gazetteer or this one, and nothing more is printed.
-    ensures moments { IsTrue (T.view station.old).is_told → (first : Gazetteer) → AllHold (T.view station.old) first
-        → LeavesOnly (T.view station.old) (T.view station.new) (IsOldOrNext first gaz.now (T.view station.old)) }
-    ensures printed { IsTrue (T.view station.old).is_told → (T.view station.new).printed ≡ (T.view station.old).printed }
-
-    // After `Ok` all outcomes have this one, and the next can be stored.
-    ensures committed { OnOk result (IsTrue (T.view station.old).is_told → AllHold (T.view station.new) gaz.now) }
-    ensures fits { OnOk result (IsTrue (T.view station.old).is_told → Fits (Some (idle_of side)) (T.view station.new)) }
+    // A stop at any moment leaves the old gazetteer or this one. After `Ok` all outcomes have this one.
+    ensures stores { Stores side gaz.now (T.view station.old) (T.view station.new) result }
 
     // Where memory is wanting nothing outside is called.
     ensures memory { result ≡ Err StoreFault.Memory → station.new ≡ station.old }
-    ensures counts { OnlyRise (T.view station.old) (T.view station.new) }
     ensures cause { FailsOnce (T.view station.old).faults (T.view station.new).faults result }
 {
     let Some(day) = gaz.date() else {

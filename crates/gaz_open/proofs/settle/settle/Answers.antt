@@ -1,45 +1,10 @@
 use Rattle.std.proofs.Common.{arith, inr, subst}
 use Rattle.gaz_redo.specs.Recovered.{Tells, Means}
-use Rattle.gaz_redo.proofs.Steps.{still, both_stay}
+use Rattle.gaz_redo.proofs.Steps.{still}
 use Rattle.gaz_open.specs.Opens.{HasNoLog}
-use Rattle.gaz_open.proofs.Opened.{while_synced, while_recovered, settled_redone, same_form, same_slots, same_nothing}
+use Rattle.gaz_open.proofs.Opened.{settled_redone, same_form, same_slots}
+use Rattle.gaz_open.proofs.Opening.{opening_synced, opening_recovered}
 use Rattle.gaz_open.proofs.settle.settle.Goals as goal
-
-pub returns-in_err-sync_all-clause-moments : goal.returns-in_err-sync_all-clause-moments
-returns-in_err-sync_all-clause-moments g c told =
-    while_synced (g.T.Station.view c.args.station.now) (g.T.Station.view c.sync_all.new.station) (c.sync_all.ensures.stays told)
-
-pub returns-in-Err-Failed-clause-moments : goal.returns-in-Err-Failed-clause-moments
-returns-in-Err-Failed-clause-moments g c told =
-    let v0 = g.T.Station.view c.args.station.now in
-    let v1 = g.T.Station.view c.sync_all.new.station in
-    let v2 = g.T.Station.view c.recover.new.station in
-    let told1 = still v0.is_told v1.is_told c.sync_all.ensures.counts.told told in
-    while_recovered v0 v1 (c.sync_all.ensures.stays told) v2 (λ a. g.met.T.Station.may_stay c.args.station.now a told) (c.recover.ensures.any_moment told1)
-
-pub returns-in-Clean-clause-moments : goal.returns-in-Clean-clause-moments
-returns-in-Clean-clause-moments g c told =
-    let v0 = g.T.Station.view c.args.station.now in
-    let v1 = g.T.Station.view c.sync_all.new.station in
-    let v2 = g.T.Station.view c.recover.new.station in
-    let told1 = still v0.is_told v1.is_told c.sync_all.ensures.counts.told told in
-    while_recovered v0 v1 (c.sync_all.ensures.stays told) v2 (λ a. g.met.T.Station.may_stay c.args.station.now a told) (c.recover.ensures.any_moment told1)
-
-pub returns-in-Redone-clause-moments : goal.returns-in-Redone-clause-moments
-returns-in-Redone-clause-moments g c told =
-    let v0 = g.T.Station.view c.args.station.now in
-    let v1 = g.T.Station.view c.sync_all.new.station in
-    let v2 = g.T.Station.view c.recover.new.station in
-    let told1 = still v0.is_told v1.is_told c.sync_all.ensures.counts.told told in
-    while_recovered v0 v1 (c.sync_all.ensures.stays told) v2 (λ a. g.met.T.Station.may_stay c.args.station.now a told) (c.recover.ensures.any_moment told1)
-
-pub returns-in-NotALog-clause-moments : goal.returns-in-NotALog-clause-moments
-returns-in-NotALog-clause-moments g c told =
-    let v0 = g.T.Station.view c.args.station.now in
-    let v1 = g.T.Station.view c.sync_all.new.station in
-    let v2 = g.T.Station.view c.recover.new.station in
-    let told1 = still v0.is_told v1.is_told c.sync_all.ensures.counts.told told in
-    while_recovered v0 v1 (c.sync_all.ensures.stays told) v2 (λ a. g.met.T.Station.may_stay c.args.station.now a told) (c.recover.ensures.any_moment told1)
 
 pub returns-in-Redone-clause-settled : goal.returns-in-Redone-clause-settled
 returns-in-Redone-clause-settled g c told is_true =
@@ -79,15 +44,6 @@ returns-in-Err-Failed-clause-reads g c told slots redo =
     let redone = c.recover.ensures.reads told1 slots (same_slots v0 v1 (c.sync_all.ensures.stays told) slots redo) in
     omega (arith, synced, redone)
 
-pub returns-in-Err-Failed-clause-writes : goal.returns-in-Err-Failed-clause-writes
-returns-in-Err-Failed-clause-writes g c told slots redo =
-    let v0 = g.T.Station.view c.args.station.now in
-    let v1 = g.T.Station.view c.sync_all.new.station in
-    let told1 = still v0.is_told v1.is_told c.sync_all.ensures.counts.told told in
-    let synced = c.sync_all.ensures.counts.writes in
-    let redone = c.recover.ensures.writes told1 slots (same_slots v0 v1 (c.sync_all.ensures.stays told) slots redo) in
-    omega (arith, synced, redone)
-
 pub returns-in-Clean-clause-reads : goal.returns-in-Clean-clause-reads
 returns-in-Clean-clause-reads g c told slots redo =
     let v0 = g.T.Station.view c.args.station.now in
@@ -106,43 +62,30 @@ returns-in-Redone-clause-reads g c told slots redo =
     let redone = c.recover.ensures.reads told1 slots (same_slots v0 v1 (c.sync_all.ensures.stays told) slots redo) in
     omega (arith, synced, redone)
 
-pub returns-in-Redone-clause-writes : goal.returns-in-Redone-clause-writes
-returns-in-Redone-clause-writes g c told slots redo =
-    let v0 = g.T.Station.view c.args.station.now in
-    let v1 = g.T.Station.view c.sync_all.new.station in
-    let told1 = still v0.is_told v1.is_told c.sync_all.ensures.counts.told told in
-    let synced = c.sync_all.ensures.counts.writes in
-    let redone = c.recover.ensures.writes told1 slots (same_slots v0 v1 (c.sync_all.ensures.stays told) slots redo) in
-    omega (arith, synced, redone)
+pub returns-in_err-sync_all-clause-opening : goal.returns-in_err-sync_all-clause-opening
+returns-in_err-sync_all-clause-opening g c =
+    opening_synced (g.T.Station.view c.args.station.now) (g.T.Station.view c.sync_all.new.station) c.sync_all.ensures.stays c.sync_all.ensures.counts c.sync_all.ensures.cause.grows
 
-pub returns-in-Err-Failed-clause-untouched : goal.returns-in-Err-Failed-clause-untouched
-returns-in-Err-Failed-clause-untouched g c told nothing =
-    let v0 = g.T.Station.view c.args.station.now in
-    let v1 = g.T.Station.view c.sync_all.new.station in
-    let v2 = g.T.Station.view c.recover.new.station in
-    let told1 = still v0.is_told v1.is_told c.sync_all.ensures.counts.told told in
-    both_stay v0 v1 v2 (c.sync_all.ensures.stays told) (c.recover.ensures.untouched told1 (same_nothing v0 v1 (c.sync_all.ensures.stays told) nothing))
+pub returns-in-Err-Failed-clause-opening : goal.returns-in-Err-Failed-clause-opening
+returns-in-Err-Failed-clause-opening g c =
+    let e = c.recover.ensures in
+    opening_recovered (g.T.Station.view c.args.station.now) (g.T.Station.view c.sync_all.new.station) (g.T.Station.view c.recover.new.station) c.sync_all.ensures.stays c.sync_all.ensures.counts c.sync_all.ensures.cause.grows
+    (λ a told. g.met.T.Station.may_stay c.args.station.now a told) e.counts e.any_moment e.printed e.writes e.untouched e.unwritten
 
-pub returns-in-Clean-clause-untouched : goal.returns-in-Clean-clause-untouched
-returns-in-Clean-clause-untouched g c told nothing =
-    let v0 = g.T.Station.view c.args.station.now in
-    let v1 = g.T.Station.view c.sync_all.new.station in
-    let v2 = g.T.Station.view c.recover.new.station in
-    let told1 = still v0.is_told v1.is_told c.sync_all.ensures.counts.told told in
-    both_stay v0 v1 v2 (c.sync_all.ensures.stays told) (c.recover.ensures.untouched told1 (same_nothing v0 v1 (c.sync_all.ensures.stays told) nothing))
+pub returns-in-Clean-clause-opening : goal.returns-in-Clean-clause-opening
+returns-in-Clean-clause-opening g c =
+    let e = c.recover.ensures in
+    opening_recovered (g.T.Station.view c.args.station.now) (g.T.Station.view c.sync_all.new.station) (g.T.Station.view c.recover.new.station) c.sync_all.ensures.stays c.sync_all.ensures.counts c.sync_all.ensures.cause.grows
+    (λ a told. g.met.T.Station.may_stay c.args.station.now a told) e.counts e.any_moment e.printed e.writes e.untouched e.unwritten
 
-pub returns-in-Redone-clause-untouched : goal.returns-in-Redone-clause-untouched
-returns-in-Redone-clause-untouched g c told nothing =
-    let v0 = g.T.Station.view c.args.station.now in
-    let v1 = g.T.Station.view c.sync_all.new.station in
-    let v2 = g.T.Station.view c.recover.new.station in
-    let told1 = still v0.is_told v1.is_told c.sync_all.ensures.counts.told told in
-    both_stay v0 v1 v2 (c.sync_all.ensures.stays told) (c.recover.ensures.untouched told1 (same_nothing v0 v1 (c.sync_all.ensures.stays told) nothing))
+pub returns-in-Redone-clause-opening : goal.returns-in-Redone-clause-opening
+returns-in-Redone-clause-opening g c =
+    let e = c.recover.ensures in
+    opening_recovered (g.T.Station.view c.args.station.now) (g.T.Station.view c.sync_all.new.station) (g.T.Station.view c.recover.new.station) c.sync_all.ensures.stays c.sync_all.ensures.counts c.sync_all.ensures.cause.grows
+    (λ a told. g.met.T.Station.may_stay c.args.station.now a told) e.counts e.any_moment e.printed e.writes e.untouched e.unwritten
 
-pub returns-in-NotALog-clause-untouched : goal.returns-in-NotALog-clause-untouched
-returns-in-NotALog-clause-untouched g c told nothing =
-    let v0 = g.T.Station.view c.args.station.now in
-    let v1 = g.T.Station.view c.sync_all.new.station in
-    let v2 = g.T.Station.view c.recover.new.station in
-    let told1 = still v0.is_told v1.is_told c.sync_all.ensures.counts.told told in
-    both_stay v0 v1 v2 (c.sync_all.ensures.stays told) (c.recover.ensures.untouched told1 (same_nothing v0 v1 (c.sync_all.ensures.stays told) nothing))
+pub returns-in-NotALog-clause-opening : goal.returns-in-NotALog-clause-opening
+returns-in-NotALog-clause-opening g c =
+    let e = c.recover.ensures in
+    opening_recovered (g.T.Station.view c.args.station.now) (g.T.Station.view c.sync_all.new.station) (g.T.Station.view c.recover.new.station) c.sync_all.ensures.stays c.sync_all.ensures.counts c.sync_all.ensures.cause.grows
+    (λ a told. g.met.T.Station.may_stay c.args.station.now a told) e.counts e.any_moment e.printed e.writes e.untouched e.unwritten

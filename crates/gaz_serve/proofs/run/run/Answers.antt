@@ -69,7 +69,7 @@ returns-in-Err-Station-clause-answers g c told shelf_told first mirrors =
     let way = i.way told shelf_told first mirrors in
     let here = on_told _ _ i.told told in
     let shelf_here = on_told _ _ i.shelf_told shelf_told in
-    run_cut first _ _ _ _ _ _ _ way c.in-Ok-Some.line.now gave.line.cuts.is_line _ (line_told _ _ c.in-Ok-Some.line.now _ _ gave.gives way.told) shelf_here (g.F.Shelf.view c.answer.new.shelf) _ here i.told c.answer.ensures.told (λ a told. g.met.T.Station.may_stay c.loop-line.station a told) (λ a told. g.met.T.Station.may_stay c.answer.new.station a told) (λ t o told le leaves. g.met.T.Station.counts_now c.answer.new.station t o told le leaves) 3 _ refl heard c.in-Err-Station.field-0
+    run_cut first _ _ _ _ _ _ _ way c.in-Ok-Some.line.now gave.line.cuts.is_line _ (line_told _ _ c.in-Ok-Some.line.now _ _ gave.gives way.told) shelf_here (g.F.Shelf.view c.answer.new.shelf) _ here i.told c.answer.ensures.reports.told (λ a told. g.met.T.Station.may_stay c.loop-line.station a told) (λ a told. g.met.T.Station.may_stay c.answer.new.station a told) (λ t o told le leaves. g.met.T.Station.counts_now c.answer.new.station t o told le leaves) 3 _ refl heard c.in-Err-Station.field-0
     (rw c.in-Err-Station.is at (c.answer.ensures.step here shelf_here (state_after first way.turns) way.mirrors))
 
 pub returns-in-Err-Station-clause-failures : goal.returns-in-Err-Station-clause-failures
@@ -86,7 +86,7 @@ loop-line-preserved-in_default g c =
           let way = i.way told shelf_told first mirrors in
           let here = on_told _ _ i.told told in
           let shelf_here = on_told _ _ i.shelf_told shelf_told in
-          next_way first _ _ _ _ _ _ _ way c.in-Ok-Some.line.now gave.line.cuts.is_line _ (line_told _ _ c.in-Ok-Some.line.now _ _ gave.gives way.told) shelf_here (g.F.Shelf.view c.answer.new.shelf) _ here i.told c.answer.ensures.told (λ a told. g.met.T.Station.may_stay c.loop-line.station a told) _ gave.numbers
+          next_way first _ _ _ _ _ _ _ way c.in-Ok-Some.line.now gave.line.cuts.is_line _ (line_told _ _ c.in-Ok-Some.line.now _ _ gave.gives way.told) shelf_here (g.F.Shelf.view c.answer.new.shelf) _ here i.told c.answer.ensures.reports.told (λ a told. g.met.T.Station.may_stay c.loop-line.station a told) _ gave.numbers
           (rw c.in_default.is at (c.answer.ensures.step here shelf_here (state_after first way.turns) way.mirrors));
       failures = tells_more _ _ _ _ i.failures (g.F.Shelf.view c.answer.new.shelf) _ (rw c.in_default.is at c.answer.ensures.tells);
       opened = c.in_default.ensures.«open»;
@@ -101,8 +101,8 @@ loop-line-preserved-in_default g c =
       numbers = closes_on c.answer.ensures.closes.0 (g.F.Shelf.view c.args.shelf.now) (g.F.Shelf.view c.loop-line.shelf) (g.F.Shelf.view c.answer.new.shelf) i.numbers c.answer.ensures.closes.1;
       shelf_told = closes_told c.answer.ensures.closes.0 (g.F.Shelf.view c.loop-line.shelf) (g.F.Shelf.view c.answer.new.shelf) c.answer.ensures.closes.1 ∙ i.shelf_told;
       source = c.in-Ok-Some.ensures.cause ∙ i.source;
-      station = c.in_default.ensures.cause.kept ∙ i.station;
-      told = c.answer.ensures.told ∙ i.told;
+      station = c.in_default.ensures.reports.cause.kept ∙ i.station;
+      told = c.answer.ensures.reports.told ∙ i.told;
     }
 
 pub returns-in-Err-Station-refuse_long-clause-answers : goal.returns-in-Err-Station-refuse_long-clause-answers
@@ -116,13 +116,13 @@ returns-in-Err-Station-refuse_long-clause-answers g c told shelf_told first mirr
     let here = on_told _ _ i.told told in
     let shelf_here = on_told _ _ i.shelf_told shelf_told in
     let line = long_told _ _ gave.refuses.line _ _ long gave.refuses.cuts.is_line gave.gives way.told in
-    run_cut first _ _ _ _ _ _ _ way line.0 line.2 _ line.3 shelf_here (g.F.Shelf.view c.loop-line.shelf) _ here i.told c.refuse_long.ensures.told (λ a told. g.met.T.Station.may_stay c.loop-line.station a told) (λ a told. g.met.T.Station.may_stay c.refuse_long.new.station a told) (λ t o told le leaves. g.met.T.Station.counts_now c.refuse_long.new.station t o told le leaves) 3 _ refl heard c.in-Err-Station-refuse_long.field-0
-    (long_step line.0 (state_after first way.turns) (g.F.Shelf.view c.loop-line.shelf) _ _ _ (λ o told left. g.met.T.Station.only_now c.loop-line.station o told left) line.1 (rw c.in-Err-Station-refuse_long.is at c.refuse_long.ensures.printed) c.refuse_long.ensures.moments c.refuse_long.ensures.areas)
+    run_cut first _ _ _ _ _ _ _ way line.0 line.2 _ line.3 shelf_here (g.F.Shelf.view c.loop-line.shelf) _ here i.told c.refuse_long.ensures.reports.told (λ a told. g.met.T.Station.may_stay c.loop-line.station a told) (λ a told. g.met.T.Station.may_stay c.refuse_long.new.station a told) (λ t o told le leaves. g.met.T.Station.counts_now c.refuse_long.new.station t o told le leaves) 3 _ refl heard c.in-Err-Station-refuse_long.field-0
+    (long_step line.0 (state_after first way.turns) (g.F.Shelf.view c.loop-line.shelf) _ _ _ (λ o told left. g.met.T.Station.only_now c.loop-line.station o told left) line.1 (rw c.in-Err-Station-refuse_long.is at c.refuse_long.ensures.replies.printed) c.refuse_long.ensures.replies.moments c.refuse_long.ensures.replies.areas)
 
 pub returns-in-Err-Station-refuse_long-clause-failures : goal.returns-in-Err-Station-refuse_long-clause-failures
 returns-in-Err-Station-refuse_long-clause-failures g c =
     tells_cut _ _ _ _ c.loop-line.invariant.failures (g.F.Shelf.view c.loop-line.shelf) _ c.in-Err-Station-refuse_long.field-0 3 refl
-    (record { reply = refused (request (codes "length")); printed = rw c.in-Err-Station-refuse_long.is at c.refuse_long.ensures.printed; failed = record { faults = refl; last = refl } })
+    (record { reply = refused (request (codes "length")); printed = rw c.in-Err-Station-refuse_long.is at c.refuse_long.ensures.replies.printed; failed = record { faults = refl; last = refl } })
 
 pub loop-line-preserved : goal.loop-line-preserved
 loop-line-preserved g c =
@@ -136,11 +136,11 @@ loop-line-preserved g c =
           let here = on_told _ _ i.told told in
           let shelf_here = on_told _ _ i.shelf_told shelf_told in
           let line = long_told _ _ gave.refuses.line _ _ long gave.refuses.cuts.is_line gave.gives way.told in
-          next_way first _ _ _ _ _ _ _ way line.0 line.2 _ line.3 shelf_here (g.F.Shelf.view c.loop-line.shelf) _ here i.told c.refuse_long.ensures.told (λ a told. g.met.T.Station.may_stay c.loop-line.station a told) {E = EndFault} _ gave.numbers.0
-          (long_step line.0 (state_after first way.turns) (g.F.Shelf.view c.loop-line.shelf) _ _ _ (λ o told left. g.met.T.Station.only_now c.loop-line.station o told left) line.1 (rw c.in_default-refuse_long.is at c.refuse_long.ensures.printed) c.refuse_long.ensures.moments c.refuse_long.ensures.areas);
+          next_way first _ _ _ _ _ _ _ way line.0 line.2 _ line.3 shelf_here (g.F.Shelf.view c.loop-line.shelf) _ here i.told c.refuse_long.ensures.reports.told (λ a told. g.met.T.Station.may_stay c.loop-line.station a told) {E = EndFault} _ gave.numbers.0
+          (long_step line.0 (state_after first way.turns) (g.F.Shelf.view c.loop-line.shelf) _ _ _ (λ o told left. g.met.T.Station.only_now c.loop-line.station o told left) line.1 (rw c.in_default-refuse_long.is at c.refuse_long.ensures.replies.printed) c.refuse_long.ensures.replies.moments c.refuse_long.ensures.replies.areas);
       failures = tells_more _ _ _ _ i.failures {E = EndFault} (g.F.Shelf.view c.loop-line.shelf) _
-          (record { reply = refused (request (codes "length")); printed = rw c.in_default-refuse_long.is at c.refuse_long.ensures.printed; failed = record { faults = refl; last = refl } });
-      opened = open_still c.loop-line.session (g.T.Station.view c.loop-line.station) (g.T.Station.view c.refuse_long.new.station) c.refuse_long.ensures.told c.refuse_long.ensures.areas i.opened;
+          (record { reply = refused (request (codes "length")); printed = rw c.in_default-refuse_long.is at c.refuse_long.ensures.replies.printed; failed = record { faults = refl; last = refl } });
+      opened = open_still c.loop-line.session (g.T.Station.view c.loop-line.station) (g.T.Station.view c.refuse_long.new.station) c.refuse_long.ensures.reports.told c.refuse_long.ensures.replies.areas i.opened;
       line_limit = gave.line_limit ∙ i.line_limit;
       reads = inr c.next_source.follows.holds-at-none.reads;
       ended = gave.ended;
@@ -152,8 +152,8 @@ loop-line-preserved g c =
       shelf_told = i.shelf_told;
       numbers = i.numbers;
       source = (rw c.in-Err-TooLong.field-0-is at c.in-Err-TooLong.ensures.cause) ∙ i.source;
-      station = c.in_default-refuse_long.ensures.cause.kept ∙ i.station;
-      told = c.refuse_long.ensures.told ∙ i.told;
+      station = c.in_default-refuse_long.ensures.reports.cause.kept ∙ i.station;
+      told = c.refuse_long.ensures.reports.told ∙ i.told;
     }
 
 pub returns-in-Ok-None-clause-taken : goal.returns-in-Ok-None-clause-taken

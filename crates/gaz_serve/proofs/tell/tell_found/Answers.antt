@@ -12,29 +12,26 @@ use Rattle.gaz_serve.proofs.tell.tell_found.Goals as goal
 one_row : (line : List ℕ) → with_ends (line ∷ []) ++ with_ends (end_line 1 ∷ []) ≡ reply_text (rows (line ∷ []))
 one_row line = ap (λ xs. xs ++ with_ends (end_line 1 ∷ [])) (append-nil (line ++ 10 ∷ []))
 
-pub returns-in-Ok-clause-printed : goal.returns-in-Ok-clause-printed
-returns-in-Ok-clause-printed g c =
-    subst (λ text. Prints text (g.T.Station.view c.args.station.now) (g.T.Station.view c.write_end.new.station) c.write_end.result)
-    (one_row c.in-Some.line.now ∙ ap (λ l. reply_text (rows (option_to_list (option_copied l)))) (sym c.in-Some.is))
-    (both (with_ends (c.in-Some.line.now ∷ [])) (with_ends (end_line 1 ∷ [])) _ _ _ c.write_end.result c.in-Ok.ensures.printed c.write_end.ensures.printed)
+pub returns-in-Ok-clause-replies : goal.returns-in-Ok-clause-replies
+returns-in-Ok-clause-replies g c =
+    let whole = one_row c.in-Some.line.now ∙ ap (λ l. reply_text (rows (option_to_list (option_copied l)))) (sym c.in-Some.is) in
+    record {
+      printed =
+          subst (λ text. Prints text (g.T.Station.view c.args.station.now) (g.T.Station.view c.write_end.new.station) c.write_end.result) whole
+          (both (with_ends (c.in-Some.line.now ∷ [])) (with_ends (end_line 1 ∷ [])) _ _ _ c.write_end.result c.in-Ok.ensures.printed c.write_end.ensures.printed);
+      moments =
+          same_cut _ _ _ _ whole
+          (cut_in_both (with_ends (c.in-Some.line.now ∷ [])) (with_ends (end_line 1 ∷ [])) _ _ _ c.in-Ok.ensures.told c.in-Ok.ensures.areas c.in-Ok.ensures.printed c.in-Ok.ensures.moments c.write_end.ensures.moments);
+      areas = areas_stay_on (g.T.Station.view c.args.station.now) (g.T.Station.view c.write_row.new.station) (g.T.Station.view c.write_end.new.station) c.in-Ok.ensures.told c.in-Ok.ensures.areas c.write_end.ensures.areas;
+    }
 
-pub returns-in-Err-clause-printed : goal.returns-in-Err-clause-printed
-returns-in-Err-clause-printed g c =
-    subst (λ text. PrintsFront text (g.T.Station.view c.args.station.now) (g.T.Station.view c.write_row.new.station))
-    (one_row c.in-Some.line.now ∙ ap (λ l. reply_text (rows (option_to_list (option_copied l)))) (sym c.in-Some.is))
-    (front (with_ends (c.in-Some.line.now ∷ [])) (with_ends (end_line 1 ∷ [])) _ _ c.in-Err.ensures.printed)
-
-pub returns-in-Ok-clause-areas : goal.returns-in-Ok-clause-areas
-returns-in-Ok-clause-areas g c =
-    areas_stay_on (g.T.Station.view c.args.station.now) (g.T.Station.view c.write_row.new.station) (g.T.Station.view c.write_end.new.station) c.in-Ok.ensures.told
-    c.in-Ok.ensures.areas c.write_end.ensures.areas
-
-pub returns-in-Ok-clause-moments : goal.returns-in-Ok-clause-moments
-returns-in-Ok-clause-moments g c =
-    same_cut _ _ _ _ (one_row c.in-Some.line.now ∙ ap (λ l. reply_text (rows (option_to_list (option_copied l)))) (sym c.in-Some.is))
-    (cut_in_both (with_ends (c.in-Some.line.now ∷ [])) (with_ends (end_line 1 ∷ [])) _ _ _ c.in-Ok.ensures.told c.in-Ok.ensures.areas c.in-Ok.ensures.printed c.in-Ok.ensures.moments c.write_end.ensures.moments)
-
-pub returns-in-Err-clause-moments : goal.returns-in-Err-clause-moments
-returns-in-Err-clause-moments g c =
-    same_cut _ _ _ _ (one_row c.in-Some.line.now ∙ ap (λ l. reply_text (rows (option_to_list (option_copied l)))) (sym c.in-Some.is))
-    (cut_in_first (with_ends (c.in-Some.line.now ∷ [])) (with_ends (end_line 1 ∷ [])) _ _ c.in-Err.ensures.moments)
+pub returns-in-Err-clause-replies : goal.returns-in-Err-clause-replies
+returns-in-Err-clause-replies g c =
+    let whole = one_row c.in-Some.line.now ∙ ap (λ l. reply_text (rows (option_to_list (option_copied l)))) (sym c.in-Some.is) in
+    record {
+      printed =
+          subst (λ text. PrintsFront text (g.T.Station.view c.args.station.now) (g.T.Station.view c.write_row.new.station)) whole
+          (front (with_ends (c.in-Some.line.now ∷ [])) (with_ends (end_line 1 ∷ [])) _ _ c.in-Err.ensures.printed);
+      moments = same_cut _ _ _ _ whole (cut_in_first (with_ends (c.in-Some.line.now ∷ [])) (with_ends (end_line 1 ∷ [])) _ _ c.in-Err.ensures.moments);
+      areas = c.in-Err.ensures.areas;
+    }

@@ -3,7 +3,7 @@ use Rattle.gaz_outside.specs.Outside.{RisesOnce, left_of}
 use Rattle.gaz_open.specs.Holds.{AllHold}
 use Rattle.gaz_turns.proofs.Told.{mirrors_now, same_printed}
 use Rattle.gaz_serve.specs.Ran.{IsUnopened}
-use Rattle.gaz_serve.proofs.Answered.{IsOpening, answered, run_opened, stops_opened, exit_opened, with_unopened, opened_status}
+use Rattle.gaz_serve.proofs.Answered.{answered, run_opened, stops_opened, exit_opened, with_unopened, opened_status}
 use Rattle.gaz_serve.proofs.Unopened.{opens_nothing, ran_unopened}
 use Rattle.gaz_serve.proofs.Telling.{tells_from}
 use Rattle.gaz_serve.proofs.top.serve_all.Goals as goal
@@ -19,7 +19,7 @@ pub returns-in-Err-Station : goal.returns-in-Err-Station
 returns-in-Err-Station g c =
     let e = c.start.ensures in
     ran_unopened g.S.Source.view g.F.Shelf.view g.T.Station.view c.args.requests.now c.args.shelf.now c.args.station.now c.start.new.station 3 (inl refl) (g.met.F.Shelf.faults_fit c.args.shelf.now)
-    (record { told = e.told; printed = e.printed; moments = e.moments; untouched = e.untouched; unwritten = e.unwritten })
+    e.opening
     (λ t o told le leaves. g.met.T.Station.counts_now c.start.new.station t o told le leaves)
     (λ is. absurd (omega (arith, is))) (λ is. rw c.in-Err-Station.field-0-is at c.in-Err-Station.ensures.cause) (λ is. absurd (is refl))
 
@@ -27,7 +27,7 @@ pub returns-in-Err-Memory : goal.returns-in-Err-Memory
 returns-in-Err-Memory g c =
     let e = c.start.ensures in
     ran_unopened g.S.Source.view g.F.Shelf.view g.T.Station.view c.args.requests.now c.args.shelf.now c.args.station.now c.start.new.station 5 (inr (inl refl)) (g.met.F.Shelf.faults_fit c.args.shelf.now)
-    (record { told = e.told; printed = e.printed; moments = e.moments; untouched = e.untouched; unwritten = e.unwritten })
+    e.opening
     (λ t o told le leaves. g.met.T.Station.counts_now c.start.new.station t o told le leaves)
     (λ is. absurd (omega (arith, is))) (λ is. absurd (omega (arith, is))) (λ is. rw c.in-Err-Memory.field-0-is at c.in-Err-Memory.ensures.cause)
 
@@ -35,9 +35,9 @@ pub returns : goal.returns
 returns g c =
     let e = c.start.ensures in
     ran_unopened g.S.Source.view g.F.Shelf.view g.T.Station.view c.args.requests.now c.args.shelf.now c.args.station.now c.start.new.station 6 (inr (inr refl)) (g.met.F.Shelf.faults_fit c.args.shelf.now)
-    (record { told = e.told; printed = e.printed; moments = e.moments; untouched = e.untouched; unwritten = e.unwritten })
+    e.opening
     (λ t o told le leaves. g.met.T.Station.counts_now c.start.new.station t o told le leaves)
-    (λ is told. c.in-Err-NotAMirror.ensures.none told _ c.in-Err-NotAMirror.field-0-is) (λ is. absurd (omega (arith, is))) (λ is. rw c.in-Err-NotAMirror.field-0-is at c.in-Err-NotAMirror.ensures.cause)
+    (λ is told. (c.in-Err-NotAMirror.ensures.none told _ c.in-Err-NotAMirror.field-0-is).none) (λ is. absurd (omega (arith, is))) (λ is. rw c.in-Err-NotAMirror.field-0-is at c.in-Err-NotAMirror.ensures.cause)
 
 pub returns-in-Ok-start : goal.returns-in-Ok-start
 returns-in-Ok-start g c =
@@ -50,11 +50,11 @@ returns-in-Ok-start g c =
     let shelf_now = g.F.Shelf.view c.run.new.shelf in
     let others = with_unopened c.run.result e.others in
     let faults = c.in-Ok-start.ensures.cause in
-    let opening : IsOpening old mid = record { told = s.told; printed = s.printed; moments = s.moments; untouched = s.untouched; unwritten = s.unwritten } in
+    let opening = s.opening in
     let failed : c.run.result ≡ 3 → RisesOnce old.faults new.faults = λ is. subst (λ (n : ℕ). RisesOnce n new.faults) faults (e.station is) in
     record {
       answers = λ told shelf_told first mirrors.
-          let here = subst (λ (b : Bool). IsTrue b) (sym s.told) told in
+          let here = subst (λ (b : Bool). IsTrue b) (sym opening.counts.told) told in
           let holds : IsTrue old.is_told → AllHold mid first.gaz = λ told. c.in-Ok-start.ensures.holds told first.gaz mirrors in
           let run = e.answers here shelf_told first (mirrors_now mid first.gaz (λ a. g.met.T.Station.may_stay c.start.new.station a here) (holds told)) in
           answered first (left_of (g.S.Source.view c.args.requests.now)) (left_of (g.S.Source.view c.run.new.source)) (g.S.Source.view c.args.requests.now).faults (g.S.Source.view c.run.new.source).faults shelf shelf_now old new (IsUnopened c.args.requests.now c.run.new.source c.args.shelf.now c.run.new.shelf old new c.run.result) c.run.result
@@ -62,7 +62,7 @@ returns-in-Ok-start g c =
           (stops_opened first _ _ shelf shelf_now old mid new c.run.result opening holds run)
           (inr (exit_opened first _ _ shelf shelf_now old mid new c.run.result opening holds run e.told))
           failed e.source others;
-      failures = tells_from shelf shelf_now old mid new c.run.result (same_printed old mid s.told s.printed) e.failures;
+      failures = tells_from shelf shelf_now old mid new c.run.result (same_printed old mid opening.counts.told opening.printed) e.failures;
       none = λ is. opened_status c.run.result e.others (inr is);
       unopened = λ is. opened_status c.run.result e.others is;
       emptied = e.emptied;
@@ -73,6 +73,6 @@ returns-in-Ok-start g c =
       station_kept = λ is. e.station_kept is ∙ faults;
       source_failed = e.source;
       source_kept = e.source_kept;
-      told = e.told ∙ s.told;
+      told = e.told ∙ opening.counts.told;
       others = others;
     }

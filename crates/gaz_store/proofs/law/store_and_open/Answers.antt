@@ -14,7 +14,7 @@ returns-in-Ok-clause-same g c =
     let v0 = g.T.Station.view c.args.station.now in
     let v1 = g.T.Station.view c.store.new.station in
     IfOk-weaker _ _ c.open_plain.result c.open_plain.ensures.one (λ mirror one told.
-    one (still v0.is_told v1.is_told c.store.ensures.counts.told told) c.args.gaz.now (c.in-Ok.ensures.committed told))
+    one (still v0.is_told v1.is_told c.store.ensures.stores.counts.told told) c.args.gaz.now (c.in-Ok.ensures.stores.committed told))
 
 pub returns-in-Ok-clause-cause : goal.returns-in-Ok-clause-cause
 returns-in-Ok-clause-cause g c =
@@ -25,5 +25,11 @@ pub returns-in-Ok-clause-found : goal.returns-in-Ok-clause-found
 returns-in-Ok-clause-found g c =
     let v0 = g.T.Station.view c.args.station.now in
     let v1 = g.T.Station.view c.store.new.station in
-    IfErr-weaker _ _ c.open_plain.result c.open_plain.ensures.nowhere (λ why nowhere told place is.
-    nowhere (still v0.is_told v1.is_told c.store.ensures.counts.told told) place is c.args.gaz.now (c.in-Ok.ensures.committed told))
+    IfErr-weaker _ _ c.open_plain.result c.open_plain.ensures.none (λ why none told place is.
+    (none (still v0.is_told v1.is_told c.store.ensures.stores.counts.told told) place is).nowhere c.args.gaz.now (c.in-Ok.ensures.stores.committed told))
+
+pub returns-in-Ok-clause-fits : goal.returns-in-Ok-clause-fits
+returns-in-Ok-clause-fits g c =
+    let v0 = g.T.Station.view c.args.station.now in
+    let v1 = g.T.Station.view c.store.new.station in
+    IfOk-weaker _ _ c.open_plain.result c.open_plain.ensures.opened (λ mirror opened told. (opened (still v0.is_told v1.is_told c.store.ensures.stores.counts.told told)).fits)

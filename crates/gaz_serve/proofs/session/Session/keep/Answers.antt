@@ -13,18 +13,18 @@ use Rattle.gaz_serve.proofs.session.Session.keep.Goals as goal
 
 pub returns-in-Ok-clause-given : goal.returns-in-Ok-clause-given
 returns-in-Ok-clause-given g c =
-    inl (stored_given (state_of c.args.self.now) c.args.change c.args.gaz (g.T.Station.view c.args.station.now) (g.T.Station.view c.store.new.station) c.store.ensures.counts.told c.store.ensures.printed c.store.ensures.moments
-    (g.T.Station.view c.write_done.new.station) c.write_done.result (λ a told. g.met.T.Station.may_stay c.store.new.station a told) c.in-Ok.ensures.committed c.write_done.ensures.printed c.write_done.ensures.moments c.write_done.ensures.areas)
+    inl (stored_given (state_of c.args.self.now) c.args.change c.args.gaz (g.T.Station.view c.args.station.now) (g.T.Station.view c.store.new.station) c.store.ensures.stores.counts.told c.store.ensures.stores.printed c.store.ensures.stores.moments
+    (g.T.Station.view c.write_done.new.station) c.write_done.result (λ a told. g.met.T.Station.may_stay c.store.new.station a told) c.in-Ok.ensures.stores.committed c.write_done.ensures.printed c.write_done.ensures.moments c.write_done.ensures.areas)
 
 pub returns-in-Ok-clause-open : goal.returns-in-Ok-clause-open
 returns-in-Ok-clause-open g c =
     let old = g.T.Station.view c.args.station.now in
     let mid = g.T.Station.view c.store.new.station in
-    let before : IsTrue mid.is_told → IsTrue old.is_told = λ told. subst (λ (b : Bool). IsTrue b) c.store.ensures.counts.told told in
+    let before : IsTrue mid.is_told → IsTrue old.is_told = λ told. subst (λ (b : Bool). IsTrue b) c.store.ensures.stores.counts.told told in
     on_ok _ c.write_done.result (open_still _ mid (g.T.Station.view c.write_done.new.station) c.write_done.ensures.told c.write_done.ensures.areas
     (record {
-      fits = λ told. subst (λ side. Fits (Some side) mid) (sym c.in-Ok.ensures.side) (c.in-Ok.ensures.fits (before told));
-      mirrors = λ told. mirrors_now mid c.args.gaz (λ a. g.met.T.Station.may_stay c.store.new.station a told) (c.in-Ok.ensures.committed (before told));
+      fits = λ told. subst (λ side. Fits (Some side) mid) (sym c.in-Ok.ensures.side) (c.in-Ok.ensures.stores.fits (before told));
+      mirrors = λ told. mirrors_now mid c.args.gaz (λ a. g.met.T.Station.may_stay c.store.new.station a told) (c.in-Ok.ensures.stores.committed (before told));
     }))
 
 pub returns-in-Err-Memory-clause-given : goal.returns-in-Err-Memory-clause-given
@@ -37,8 +37,8 @@ returns-in-Err-Memory-clause-given g c =
 pub returns-in-Err-Memory-clause-open : goal.returns-in-Err-Memory-clause-open
 returns-in-Err-Memory-clause-open g c =
     let areas = subst (λ station. AreasStay (g.T.Station.view station) (g.T.Station.view c.write_refusal.new.station)) (c.store.ensures.memory (c.in-Err-Memory.is ∙ ap Err c.in-Err-Memory.field-0-is)) c.write_refusal.ensures.areas in
-    on_ok _ c.write_refusal.result (open_still _ (g.T.Station.view c.args.station.now) (g.T.Station.view c.write_refusal.new.station) (c.write_refusal.ensures.told ∙ c.store.ensures.counts.told) areas c.requires.«open»)
+    on_ok _ c.write_refusal.result (open_still _ (g.T.Station.view c.args.station.now) (g.T.Station.view c.write_refusal.new.station) (c.write_refusal.ensures.told ∙ c.store.ensures.stores.counts.told) areas c.requires.«open»)
 
 pub returns-clause-given : goal.returns-clause-given
 returns-clause-given g c =
-    inl (unstored_given (state_of c.args.self.now) c.args.change c.args.gaz (g.T.Station.view c.args.station.now) (g.T.Station.view c.store.new.station) c.store.ensures.counts.told c.store.ensures.printed c.store.ensures.moments _)
+    inl (unstored_given (state_of c.args.self.now) c.args.change c.args.gaz (g.T.Station.view c.args.station.now) (g.T.Station.view c.store.new.station) c.store.ensures.stores.counts.told c.store.ensures.stores.printed c.store.ensures.stores.moments _)
