@@ -10,3 +10,4 @@ pub mod Edited
 pub mod Taken
 pub mod TextTests
 pub mod Grown
+pub mod Wanting

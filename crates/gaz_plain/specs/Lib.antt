@@ -6,3 +6,6 @@ pub mod Laws
 pub mod Places
 pub mod Entries
 pub mod Faults
+pub mod Names
+pub mod Search
+pub mod Wanted

@@ -1,7 +1,10 @@
 //! The gazetteer that is stepped on plain lists.
-ghost use Rattle.std.specs.Prelude.{◌≡◌, ◌∷◌, ◌++◌, [], true, false, length, slice_get, IsSome, IsTrue, IfOk, IfErr, OnOk, OnErr, Ok};
+ghost use Rattle.std.specs.Prelude.{◌≡◌, ◌≤◌, ◌+◌, ◌∷◌, ◌++◌, [], true, false, length, take, drop, slice_get, IsSome, IsTrue, IsOk, IfOk, IfErr, OnOk, OnErr, Ok};
 ghost use Rattle.std.specs.Option.{option_copied};
 ghost use Rattle.gaz_num.specs.declared.words.Table.TheVariants.{Rows};
+ghost use Rattle.gaz_pick.specs.Order.{in_order};
+ghost use Rattle.gaz_pick.specs.Asked.{absent, asked};
+ghost use Rattle.gaz_plain.specs.Search.{matching_pairs, answer_pairs};
 ghost use Rattle.gaz_plain.specs.Gazetteer.{empty, dated, is_one_line, lines_in, with_lines, line_with, after_line, IsLine, IsGazetteer};
 ghost use Rattle.gaz_plain.specs.Text.{is_table};
 ghost use Rattle.gaz_plain.specs.Places.{IsIdOf};
@@ -9,7 +12,9 @@ ghost use Rattle.gaz_plain.specs.Faults.{IsFaultOf};
 
 use crate::check_delete;
 use crate::row_list::{PutFault, RowList};
+use crate::wanted::Wanted;
 use gaz_num::{Day, Kind, Reason, Table};
+use gaz_pick::{Best, Query, first_of_more};
 use gaz_row::check_row;
 use std::alloc::{AllocError, Global};
 use std::marker::Model;
@@ -196,6 +201,23 @@ impl PlainGaz {
             return Ok(false);
         };
         self.rows.append(id, line)
+    }
+
+    /// Puts the first of the rows that match into `best`, which then has those that the answer is cut from. Memory may be
+    /// wanting only where a name is asked for, and `best` then has any pairs.
+    #[tactic(auto, using(crate::proofs::Wanting::pairs_own))]
+    pub fn select(&self, query: &Query<'_>, best: &mut Best) -> Result<(), AllocError>
+        requires start { query.now.start ≤ 5000 }
+        requires max { query.now.max ≤ 1000 }
+        ensures keep { best.new.keep ≡ query.now.start + query.now.max }
+        ensures held { OnOk result (best.new.pairs ≡ take (query.now.start + query.now.max) (in_order (matching_pairs self.now (asked query.now)))) }
+        ensures answer { OnOk result (take query.now.max (drop query.now.start best.new.pairs) ≡ answer_pairs self.now (asked query.now)) }
+        ensures absent { (asked query.now).name ≡ absent → IsOk result }
+    {
+        first_of_more();
+        best.clear(query.start + query.max);
+        let wanted = Wanted::of(self.rows.allocator(), &query.name)?;
+        self.rows.offer_matching(query, &wanted, best)
     }
 
     /// An equal one, whose steps leave this one. A day is folded on a copy.

@@ -1,4 +1,7 @@
 //! Rows in the order of their ids.
+use crate::wanted::Wanted;
+use gaz_pick::{Best, Query, first_of_more};
+use gaz_row::Row;
 use std::alloc::{AllocError, Global};
 use std::marker::Model;
 
@@ -64,11 +67,16 @@ impl Model for RowList {
 }
 
 impl RowList {
-    ghost use Rattle.std.specs.Prelude.{◌≡◌, ◌<◌, ◌≤◌, true, false, [], ◌∷◌, ◌++◌, length, slice_get, IfOk, IfErr, OnOk, OnErr};
+    ghost use Rattle.std.specs.Prelude.{◌≡◌, ◌<◌, ◌≤◌, true, false, [], ◌∷◌, ◌++◌, length, map, filter, take, slice_get, All, IsOk, IfOk, IfErr, OnOk, OnErr};
     ghost use Rattle.std.specs.Bool.{Decides};
     ghost use Rattle.std.specs.Option.{option_copied};
+    ghost use Rattle.gaz_num.specs.declared.words.Kind.TheVariants.{Row as RowKind};
     ghost use Rattle.gaz_num.specs.declared.words.Table.TheVariants.{Rows};
-    ghost use Rattle.gaz_plain.specs.Gazetteer.{limit_of, line_at};
+    ghost use Rattle.gaz_pick.specs.Order.{in_order};
+    ghost use Rattle.gaz_pick.specs.Asked.{absent, asked};
+    ghost use Rattle.gaz_pick.specs.Match.{pair_of};
+    ghost use Rattle.gaz_plain.specs.Gazetteer.{limit_of, line_at, IsLine};
+    ghost use Rattle.gaz_plain.specs.Wanted.{wanted_of, matches_alone};
     ghost use Rattle.gaz_plain.specs.Entries.{AreInOrder};
     ghost use Rattle.gaz_plain.specs.Places.{IsIdOf, IsPlaceOf, IsGapFor, EndsBefore, with_row, without_row};
 
@@ -78,6 +86,10 @@ impl RowList {
         RowList {
             entries: Vec::new(alloc),
         }
+    }
+
+    pub fn allocator(&self) -> Global {
+        *self.entries.allocator()
     }
 
     /// Where the row with the id stands, or would stand.
@@ -207,6 +219,31 @@ impl RowList {
         if let Ok(place) = self.place_of(id) {
             self.entries.remove(place);
         }
+    }
+
+    /// Offers the population and the id of each row that has all that is asked. Columns are tested before names.
+    pub fn offer_matching(
+        &self,
+        query: &Query<'_>,
+        wanted: &Wanted,
+        best: &mut Best,
+    ) -> Result<(), AllocError>
+        requires lines { All (IsLine RowKind) self.now }
+        requires wanted { wanted.now ≡ wanted_of (asked query.now).name }
+        requires none { best.old.pairs ≡ [] }
+        ensures keep { best.new.keep ≡ best.old.keep }
+        ensures pairs { OnOk result (best.new.pairs ≡ take best.old.keep (in_order (map pair_of (filter (matches_alone (asked query.now)) self.now)))) }
+        ensures absent { (asked query.now).name ≡ absent → IsOk result }
+    {
+        first_of_more();
+        let alloc = self.allocator();
+        for entry in &self.entries {
+            let row = Row::of(entry.line.as_slice());
+            if wanted.takes(alloc, query, &row)? {
+                best.offer(row.population(), row.id());
+            }
+        }
+        Ok(())
     }
 
     pub fn copy(&self) -> Result<RowList, AllocError>
