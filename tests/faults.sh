@@ -39,6 +39,17 @@ if strace -o "$folder/trace" true 2> /dev/null; then
     check a_read_that_fails "$(serve_with requests read:error=EIO:when=1)" 'status 4'
     check a_read_that_fails_at_the_end "$(serve_with requests read:error=EIO:when=2)" "$loaded${loaded}status 4"
 
+    # A scan: its input fails behind a line without an LF, and its output behind the row that it found.
+    printf x > requests
+    strace -qq -o trace -P requests -e inject=read:error=EIO:when=2 "$program" scan 5 < requests > trace.out 2> trace.err
+    check a_scan_whose_input_fails_behind_a_line "$? $(cat trace.out)" '4 '
+    { row 2 B 2; echo; } > requests
+    strace -qq -o trace -e trace=write -e inject=write:error=EIO:when=2 "$program" scan 2 < requests > trace.out 2> trace.err
+    check a_scan_whose_second_piece_fails "$? $(cat trace.out)" "3 $(row 2 B 2)"
+    : > requests
+    strace -qq -o trace -P requests -e inject=read:error=EIO:when=2 "$program" scan 5 < requests > trace.out 2> trace.err
+    check an_end_is_not_asked_again "$? $(cat trace.out)" '0 ok 0'
+
     # Calls on the five files and the folder, of which each fails in turn while a load is stored over another one: the run ends
     # with status 3 and prints nothing, and the next one answers from before the load or from after it.
     mkdir saved

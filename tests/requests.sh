@@ -16,6 +16,20 @@ expect_anew a_day 0 $'ok load 2024-03-01\nok day 2024-03-02\n'"$(row 2 X 9)"$'\n
 expect_anew a_long_request 0 $'refused request length\nrefused notloaded\n' serve < <(head -c 4097 /dev/zero | tr '\0' g; printf '\nget 1\n')
 expect a_request_that_just_fits 0 $'refused request verb\n' serve < <(head -c 4096 /dev/zero | tr '\0' g)
 expect bytes_that_are_no_text 0 $'refused request utf8\n' serve < <(printf 'get \xff\n')
+expect a_broken_sequence 0 $'refused request utf8\n' serve < <(printf '\xc3\n')
+expect a_cr_behind_an_id 0 $'refused request id\n' serve < <(printf 'get 1\r\n')
+printf '5\n2\t\xff\n' > deletes-2024-03-02.txt
+expect_anew a_delete_that_is_no_text 0 $'ok load 2024-03-01\nrefused malformed deletes-2024-03-02.txt 2 utf8\n'"$(row 3 C 3)"$'\nok 1\n' serve <<< $'load 2024-03-01\nday 2024-03-02\nget 3'
+printf '3\tC\tgone\n' > deletes-2024-03-02.txt
+
+# A row of 65,535 bytes is the longest.
+long_row() { printf '7\t%s%s' "$(head -c $(($1 - 38)) /dev/zero | tr '\0' n)" $'\t\t\t0\t0\tP\tPPL\tAA\t\t\t\t\t\t1\t\t\t\t2024-02-01'; }
+mkdir long && cd long || exit 1
+long_row 65535 > allCountries.txt
+expect_anew the_longest_row 0 $'ok load 2024-03-01\n'"$(long_row 65535)"$'\nok 1\n' serve <<< $'load 2024-03-01\nget 7'
+long_row 65536 > allCountries.txt
+expect_anew a_row_of_a_byte_more 0 $'refused malformed allCountries.txt 1 length\nrefused notloaded\n' serve <<< $'load 2024-03-01\nget 7'
+cd ..
 expect_anew no_file 0 $'ok load 2024-03-02\nrefused absent modifications-2024-03-03.txt\n' serve <<< $'load 2024-03-02\nday 2024-03-03'
 mkdir modifications-2024-03-03.txt
 expect_anew a_folder_in_place_of_a_file 0 $'ok load 2024-03-02\nrefused shelf modifications-2024-03-03.txt\n' serve <<< $'load 2024-03-02\nday 2024-03-03'
