@@ -1,5 +1,5 @@
 -- What a load and a day come to, from what their files come to.
-use Rattle.std.proofs.Common.{◌≡◌, ◌≢◌, ℕ, Bool, true, false, IsTrue, List, [], ◌∷◌, refl, ap, arith, Option, Some, None, ◌∙◌, sym, subst, ◌⊎◌, inl, inr}
+use Rattle.std.proofs.Common.{◌≡◌, ◌≢◌, ℕ, Bool, true, false, IsTrue, List, [], ◌∷◌, refl, ap, arith, Option, Some, None, ◌∙◌, sym, subst, ◌⊎◌, ⊎_elim, inl, inr}
 use Rattle.std.specs.Prelude.{IfSome, IsSome, Result, Ok, Err, option_and_then, ok_or, if◌then◌else◌}
 use Rattle.gaz_outside.specs.Outside.{ShelfView, FindsFiles, SameFiles, OpensNumber, SameNumbers, NoneOpen, files_of, bytes_of}
 use Rattle.gaz_num.specs.declared.words.FileName.{FileName}
@@ -8,7 +8,11 @@ use Rattle.gaz_num.specs.Refusal.{Refusal, absent, ◌>>=◌}
 use Rattle.gaz_num.specs.Words.{file_text}
 use Rattle.gaz_plain.specs.Gazetteer.{Gazetteer, empty, dated}
 use Rattle.gaz_plain.specs.Fold.{File, fold}
-use Rattle.gaz_plain.specs.Load.{Files, load, day, files_of as files_named, day_files, in_sequence}
+use Rattle.gaz_plain.specs.Load.{Files, load, day, files_of as files_named, load_files, day_files, in_sequence}
+use Rattle.gaz_words.specs.declared.request.Request.{Request}
+use Rattle.gaz_words.specs.declared.request.Request.TheVariants.{Load, Day, Get}
+use Rattle.gaz_words.specs.declared.request.BadRequest.{BadRequest}
+use Rattle.gaz_turns.specs.Turns.{State, MayStarve, opens}
 use Rattle.gaz_serve.specs.declared.change.ChangeFault.{ChangeFault}
 use Rattle.gaz_serve.specs.declared.change.ChangeFault.TheVariants.{NotLoaded, Sequence, Absent, Shelf, TooLong, Malformed, Full, Memory}
 use Rattle.gaz_serve.specs.Change.{Gives, Opened, Closes}
@@ -229,10 +233,17 @@ told_files old new told still same = sym (told_now old.is_told old.files (λ fil
     there false files is = tt
 
 -- the files behind a request: as before, or others, before which those stood
-pub closes_found : (names : List FileName) (old new : ShelfView) → IsTrue old.is_told → Closes names old new → ((new.files ≡ old.files) × (new.earlier ≡ old.earlier)) ⊎ (new.earlier ≡ old.files ∷ old.earlier)
+closes_found : (names : List FileName) (old new : ShelfView) → IsTrue old.is_told → Closes names old new → ((new.files ≡ old.files) × (new.earlier ≡ old.earlier)) ⊎ (new.earlier ≡ old.files ∷ old.earlier)
 closes_found [] old new told stay = inl (told_files old new told stay.1.told stay.1.files, stay.1.earlier)
 closes_found (name ∷ names) old new told found = by found.1
   where
     by : FindsFiles old new → ((new.files ≡ old.files) × (new.earlier ≡ old.earlier)) ⊎ (new.earlier ≡ old.files ∷ old.earlier)
     by (inl same) = inl (told_files old new told same.told same.files, same.earlier)
     by (inr other) = inr other.earlier
+
+-- the files behind a request: as before, or others where it reads files
+pub request_found : (state : State) (asked : Result Request BadRequest) (old new : ShelfView) → IsTrue old.is_told → Closes (opens state asked) old new → ((new.files ≡ old.files) × (new.earlier ≡ old.earlier)) ⊎ (MayStarve asked × (new.earlier ≡ old.files ∷ old.earlier))
+request_found state (Ok (Load date)) old new told closes = ⊎_elim (λ same. inl same) (λ other. inr (tt, other)) (closes_found load_files old new told closes)
+request_found state (Ok (Day date)) old new told closes = ⊎_elim (λ same. inl same) (λ other. inr (tt, other)) (closes_found (opens state (Ok (Day date))) old new told closes)
+request_found state (Ok (Get id)) old new told closes = inl (told_files old new told closes.1.told closes.1.files, closes.1.earlier)
+request_found state (Err bad) old new told closes = inl (told_files old new told closes.1.told closes.1.files, closes.1.earlier)

@@ -35,7 +35,7 @@ use Rattle.gaz_turns.proofs.Underway.{IsUnderWay, starts, goes_on, ends_cut, end
 use Rattle.gaz_serve.specs.Change.{Closes}
 use Rattle.gaz_serve.specs.Step.{IsBlamed, OneStep}
 use Rattle.gaz_serve.specs.Serve.{Given}
-use Rattle.gaz_serve.proofs.Changing.{closes_found}
+use Rattle.gaz_serve.proofs.Changing.{request_found}
 use Rattle.gaz_serve.specs.Ran.{asked, RisesBy, IsHeard, IsUnwritten, RunAnswers}
 
 shelf-append : (turns more : List Turn) → shelf_refusals (turns ++ more) ≡ shelf_refusals turns + shelf_refusals more
@@ -190,7 +190,7 @@ module _ (first : State) (bytes : Option (List ℕ)) (shelf shelf_now : ShelfVie
       files_more : {A E : Type 0} (result : Result A E) (step : OneStep line state shelf_now after station station_now result) → HaveFiles shelf (way.turns ++ turn_by step.verdict ∷ []) after
       files_more result step =
           follow_more shelf.files shelf.earlier way.turns (turn_by step.verdict) shelf_now.files shelf_now.earlier after.files after.earlier way.files refl
-          (closes_found (opens state (request_in line)) shelf_now after shelf_told step.closes)
+          (request_found state (request_in line) shelf_now after shelf_told step.closes)
 
       causes_more : {A E : Type 0} (result : Result A E) (step : OneStep line state shelf_now after station station_now result) → RisesBy (shelf_refusals (way.turns ++ turn_by step.verdict ∷ [])) shelf.faults after.faults
       causes_more result step = subst (λ n. RisesBy n shelf.faults after.faults) (sym (refused_more way.turns (turn_by step.verdict))) (rises_more (shelf_refusals way.turns) shelf.faults step.verdict shelf_now after way.causes step.blamed)

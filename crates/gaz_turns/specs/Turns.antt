@@ -172,13 +172,13 @@ has_change state (turn ∷ turns) =
     let answered = answer_at state turn in
     is_change answered.reply || has_change answered.state turns
 
--- Each turn has the files of the turn before, or others, before which those stood; at first these files, with the earlier ones,
--- and at the end those of now. Lists of earlier files have the last ones first.
+-- Each turn has the files of the turn before, or, where its request reads files, others, before which those stood; at first these
+-- files, with the earlier ones, and at the end those of now. Lists of earlier files have the last ones first.
 abbrev pub FilesFollow : Files → List Files → List Turn → Files → List Files → Type 0
 FilesFollow files earlier [] now earlier_now = (now ≡ files) × (earlier_now ≡ earlier)
 FilesFollow files earlier (turn ∷ turns) now earlier_now =
     ((turn.files ≡ files) × FilesFollow files earlier turns now earlier_now)
-    ⊎ FilesFollow turn.files (files ∷ earlier) turns now earlier_now
+    ⊎ (MayStarve (request_in turn.line) × FilesFollow turn.files (files ∷ earlier) turns now earlier_now)
 
 -- Each turn has the files that the shelf had then.
 abbrev pub HaveFiles : ShelfView → List Turn → ShelfView → Type 0
