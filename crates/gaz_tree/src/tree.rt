@@ -4,7 +4,7 @@ ghost use Rattle.gaz_leaf.specs.Node.{Pair, key_of};
 ghost use Rattle.std.specs.Prelude.{false, ◌^◌, ◌<◌, [], Some, IfOk, OnOk, OnErr};
 ghost use Rattle.gaz_page.specs.Pages.{HasPageCause, Counts, SamePages, IsDamaged, damage};
 ghost use Rattle.gaz_tree.specs.Pairs.{lookup, put};
-ghost use Rattle.gaz_tree.specs.Put.{Changes, HasChain};
+ghost use Rattle.gaz_tree.specs.Put.{Changes, HasChain, Trades};
 ghost use Rattle.gaz_tree.specs.Stands.{OfTree, Stands, IsWithout};
 ghost use Rattle.gaz_tree.specs.Tree.{IsTop};
 ghost use Rattle.gaz_page.specs.Pages.{HasReads, NoMemory};
@@ -33,6 +33,8 @@ impl Tree {
         requires may_change { (P.view pages.old).is_read_only ≡ false }
         ensures stands { IfOk result (λ tree. IsTrue (P.view pages.old).is_told → HasChain (P.view pages.old) → 0 < (P.view pages.old).fresh → Stands (P.view pages.new) tree []) }
         ensures others { OnOk result (IsTrue (P.view pages.old).is_told → Changes (λ n. ⊥) (P.view pages.old) (P.view pages.new)) }
+        ensures trades { IfOk result (λ tree. IsTrue (P.view pages.old).is_told → HasChain (P.view pages.old) → 0 < (P.view pages.old).fresh
+            → Trades (λ n. ⊥) (OfTree (P.view pages.new).page tree) (P.view pages.old) (P.view pages.new)) }
         ensures damaged { IsTrue (P.view pages.old).is_told → IsDamaged (damage (P.view pages.old)) result }
         ensures counts { Counts 1 2 (P.view pages.old) (P.view pages.new) }
         ensures cause { HasPageCause (P.view pages.old) (P.view pages.new) result }
@@ -79,6 +81,9 @@ impl Tree {
             → SamePages (P.view pages.old) (P.view pages.new) × ((P.view pages.new).changed ≡ (P.view pages.old).changed)) }
         ensures others { OnOk result (IsTrue (P.view pages.old).is_told → (pairs : List Pair) → Stands (P.view pages.old) self.old pairs
             → Changes (OfTree (P.view pages.old).page self.old) (P.view pages.old) (P.view pages.new)) }
+        // The pages of the tree and the free ones are those of before and those newly taken. Only pages of the tree change.
+        ensures trades { OnOk result (IsTrue (P.view pages.old).is_told → (pairs : List Pair) → Stands (P.view pages.old) self.old pairs
+            → Trades (OfTree (P.view pages.old).page self.old) (OfTree (P.view pages.new).page self.new) (P.view pages.old) (P.view pages.new)) }
         ensures left { OnErr result (self.new ≡ self.old) }
         ensures counts { self.old.height ≤ 6 → Counts 20 20 (P.view pages.old) (P.view pages.new) }
         ensures cause { HasPageCause (P.view pages.old) (P.view pages.new) result }
