@@ -9,4 +9,3 @@ mod reply;
 
 pub use refusal::{Refusal, write_refusal};
 pub use reply::{Done, write_done, write_end, write_row};
-

@@ -6,4 +6,3 @@
 mod request;
 
 pub use request::{BadRequest, Request, read_request};
-
