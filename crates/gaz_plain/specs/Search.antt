@@ -20,6 +20,10 @@ matching_pairs gaz asked = map pair_of (filter (matches gaz asked) gaz.rows)
 abbrev pub answer_pairs : Gazetteer → Asked → List Pair
 answer_pairs gaz asked = cut (matching_pairs gaz asked) asked.start asked.max
 
--- the answer: the rows with these ids
+-- the rows with the ids of pairs
+abbrev pub rows_at : Gazetteer → List Pair → List (List ℕ)
+rows_at gaz pairs = filter_map (λ pair. line_with Rows (pair.1 ∷ []) gaz) pairs
+
+-- the answer: the rows of these pairs
 abbrev pub search_of : Gazetteer → Asked → List (List ℕ)
-search_of gaz asked = filter_map (λ pair. line_with Rows (pair.1 ∷ []) gaz) (answer_pairs gaz asked)
+search_of gaz asked = rows_at gaz (answer_pairs gaz asked)

@@ -7,9 +7,8 @@ use Rattle.gaz_plain.specs.Gazetteer.{Gazetteer}
 use Rattle.gaz_plain.specs.Load.{Files}
 use Rattle.gaz_open.specs.Content.{Mirrors}
 use Rattle.gaz_open.proofs.Mirrored.{one_mirror}
-use Rattle.gaz_words.specs.declared.request.Request.{Request}
 use Rattle.gaz_words.specs.declared.request.BadRequest.{BadRequest}
-use Rattle.gaz_words.specs.Grammar.{request_in, bad_word}
+use Rattle.gaz_words.specs.Grammar.{RequestAsked, request_in, bad_word}
 use Rattle.gaz_reply.specs.Reply.{refused, reply_text}
 use Rattle.gaz_turns.specs.Turns.{State, Answer, Verdict, plain, memory, shelf, same_state, answer_to_read, answer_by, opens, IsReached, MayBe, MayStarve}
 use Rattle.gaz_turns.specs.Steps.{IsGiven}
@@ -32,7 +31,7 @@ given_alike answer state old new (Ok x) (Err y) alike given = absurd alike
 given_alike answer state old new (Err x) (Ok y) alike given = absurd alike
 
 -- a line that was read as the request
-module _ (state : State) (line : List ℕ) (asked : Request) (read : request_in line ≡ Ok asked) where
+module _ (state : State) (line : List ℕ) (asked : RequestAsked) (read : request_in line ≡ Ok asked) where
   may_be : (files : Files) (verdict : Verdict) → MayMeet verdict state files asked → MayBe verdict state files line
   may_be files plain may = tt
   may_be files memory may = subst MayStarve (sym read) may

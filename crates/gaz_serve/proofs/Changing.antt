@@ -9,10 +9,9 @@ use Rattle.gaz_num.specs.Words.{file_text}
 use Rattle.gaz_plain.specs.Gazetteer.{Gazetteer, empty, dated}
 use Rattle.gaz_plain.specs.Fold.{File, fold}
 use Rattle.gaz_plain.specs.Load.{Files, load, day, files_of as files_named, load_files, day_files, in_sequence}
-use Rattle.gaz_words.specs.declared.request.Request.{Request}
-use Rattle.gaz_words.specs.declared.request.Request.TheVariants.{Load, Day, Get}
+use Rattle.gaz_words.specs.Grammar.{RequestAsked, asks_load, asks_day, asks_get, asks_search}
 use Rattle.gaz_words.specs.declared.request.BadRequest.{BadRequest}
-use Rattle.gaz_turns.specs.Turns.{State, MayStarve, opens}
+use Rattle.gaz_turns.specs.Turns.{State, ReadsFiles, opens}
 use Rattle.gaz_serve.specs.declared.change.ChangeFault.{ChangeFault}
 use Rattle.gaz_serve.specs.declared.change.ChangeFault.TheVariants.{NotLoaded, Sequence, Absent, Shelf, TooLong, Malformed, Full, Memory}
 use Rattle.gaz_serve.specs.Change.{Gives, Opened, Closes}
@@ -242,8 +241,9 @@ closes_found (name ∷ names) old new told found = by found.1
     by (inr other) = inr other.earlier
 
 -- the files behind a request: as before, or others where it reads files
-pub request_found : (state : State) (asked : Result Request BadRequest) (old new : ShelfView) → IsTrue old.is_told → Closes (opens state asked) old new → ((new.files ≡ old.files) × (new.earlier ≡ old.earlier)) ⊎ (MayStarve asked × (new.earlier ≡ old.files ∷ old.earlier))
-request_found state (Ok (Load date)) old new told closes = ⊎_elim (λ same. inl same) (λ other. inr (tt, other)) (closes_found load_files old new told closes)
-request_found state (Ok (Day date)) old new told closes = ⊎_elim (λ same. inl same) (λ other. inr (tt, other)) (closes_found (opens state (Ok (Day date))) old new told closes)
-request_found state (Ok (Get id)) old new told closes = inl (told_files old new told closes.1.told closes.1.files, closes.1.earlier)
+pub request_found : (state : State) (asked : Result RequestAsked BadRequest) (old new : ShelfView) → IsTrue old.is_told → Closes (opens state asked) old new → ((new.files ≡ old.files) × (new.earlier ≡ old.earlier)) ⊎ (ReadsFiles asked × (new.earlier ≡ old.files ∷ old.earlier))
+request_found state (Ok (asks_load date)) old new told closes = ⊎_elim (λ same. inl same) (λ other. inr (tt, other)) (closes_found load_files old new told closes)
+request_found state (Ok (asks_day date)) old new told closes = ⊎_elim (λ same. inl same) (λ other. inr (tt, other)) (closes_found (opens state (Ok (asks_day date))) old new told closes)
+request_found state (Ok (asks_get id)) old new told closes = inl (told_files old new told closes.1.told closes.1.files, closes.1.earlier)
+request_found state (Ok (asks_search asked)) old new told closes = inl (told_files old new told closes.1.told closes.1.files, closes.1.earlier)
 request_found state (Err bad) old new told closes = inl (told_files old new told closes.1.told closes.1.files, closes.1.earlier)

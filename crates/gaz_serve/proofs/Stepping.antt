@@ -1,19 +1,21 @@
 -- A change as one step.
 use Rattle.std.proofs.Common.{◌≡◌, ⊎_elim, ℕ, Bool, true, false, List, None, refl, ap, sym, subst, ◌∙◌}
-use Rattle.std.specs.Prelude.{Result, Ok, Err, is_none, if◌then◌else◌}
+use Rattle.std.specs.Prelude.{◌⊎◌, Result, Ok, Err, is_none, if◌then◌else◌}
 use Rattle.gaz_outside.specs.Outside.{ShelfView, StationView}
 use Rattle.gaz_num.specs.Refusal as refusal
 use Rattle.gaz_num.specs.Refusal.{Refusal, ◌>>=◌}
 use Rattle.gaz_plain.specs.Gazetteer.{Gazetteer, dated}
 use Rattle.gaz_plain.specs.Fold.{fold}
+use Rattle.gaz_pick.specs.Asked.{Asked}
+use Rattle.gaz_plain.specs.Search.{search_of}
 use Rattle.gaz_plain.specs.Load.{Files, day, day_files, files_of, in_sequence}
-use Rattle.gaz_words.specs.declared.request.Request.{Request}
+use Rattle.gaz_words.specs.Grammar.{RequestAsked, asks_search}
 use Rattle.gaz_reply.specs.declared.reply.Done.{Done}
 use Rattle.gaz_reply.specs.Reply.{done, rows, refused}
 use Rattle.gaz_serve.specs.declared.change.ChangeFault.{ChangeFault}
 use Rattle.gaz_serve.specs.declared.change.ChangeFault.TheVariants.{NotLoaded, Sequence, Absent, Shelf, TooLong, Malformed, Full, Memory}
 use Rattle.gaz_serve.specs.Change.{Gives, Blamed, BlamesReached, IsOfDate, IsUnblamed, refusal_by}
-use Rattle.gaz_turns.specs.Turns.{State, changed, same_state, if_loaded, plain, memory, shelf, answer_to, opens, MayStarve}
+use Rattle.gaz_turns.specs.Turns.{State, changed, same_state, if_loaded, plain, memory, shelf, AsksName, answer_to, opens, MayStarve}
 use Rattle.gaz_turns.specs.Steps.{IsGiven}
 use Rattle.gaz_serve.specs.Step.{Finishes, Meets, TellsShelf, FailedIf, shelf_file}
 
@@ -32,7 +34,7 @@ date_fault gaz files date (Malformed file line reason) against is = absurd is
 date_fault gaz files date (Full file line table) against is = absurd is
 date_fault gaz files date Memory against is = absurd is
 
-module _ {E : Type 0} (files : Files) (request : Request) (change : Done) (defined : Result Gazetteer Refusal) (old : State) (before now : ShelfView) (station station_now : StationView) (result : Result (Unit {0}) E) (answer : answer_to old files request ≡ changed old change defined) (starves : MayStarve (Ok request)) where
+module _ {E : Type 0} (files : Files) (request : RequestAsked) (change : Done) (defined : Result Gazetteer Refusal) (old : State) (before now : ShelfView) (station station_now : StationView) (result : Result (Unit {0}) E) (answer : answer_to old files request ≡ changed old change defined) (starves : MayStarve (Ok request)) where
   -- the change was refused as it is defined
   refused_meets : (fault : ChangeFault) → defined ≡ Err (refusal_by fault) → IsUnblamed before now → IsGiven (same_state old (refused (refusal_by fault))) old station station_now result → Meets files request old before now station station_now result
   refused_meets fault is blamed given = record {
@@ -88,3 +90,26 @@ get_tells state lines view station station_now result given = record {
     no_file : (b : Bool) → shelf_file (if b then refused refusal.not_loaded else rows lines) ≡ None
     no_file true = refl
     no_file false = refl
+
+-- a search
+module _ {E : Type 0} (asked : Asked) (state : State) (view : ShelfView) (station station_now : StationView) (result : Result (Unit {0}) E) where
+  -- The answer is given, or memory was wanting where a name is asked for.
+  abbrev pub IsTold : Type 0
+  IsTold =
+      IsGiven (same_state state (if_loaded state (rows (search_of state.gaz asked)))) state station station_now result
+      ⊎ (AsksName asked.name × IsGiven (same_state state (refused refusal.memory)) state station station_now result)
+
+  pub search_meets : (files : Files) (request : RequestAsked) → request ≡ asks_search asked → IsTold → Meets files request state view view station station_now result
+  search_meets files request is told =
+      subst (λ r. Meets files r state view view station station_now result) (sym is)
+      (⊎_elim
+      (λ given. record { verdict = plain; may = tt; blamed = record { faults = refl; last = refl }; given = given })
+      (λ wanting. record { verdict = memory; may = wanting.0; blamed = record { faults = refl; last = refl }; given = wanting.1 })
+      told)
+
+  pub search_tells : IsTold → TellsShelf view view station station_now result
+  search_tells told =
+      ⊎_elim
+      (λ given. get_tells state (search_of state.gaz asked) view station station_now result given)
+      (λ wanting. record { reply = refused refusal.memory; printed = wanting.1.printed; failed = record { faults = refl; last = refl } })
+      told

@@ -13,8 +13,7 @@ use Rattle.gaz_serve.specs.declared.change.ChangeFault.{ChangeFault}
 use Rattle.gaz_serve.specs.Change.{IsUnblamed, FailedAt, Closes, refusal_by}
 use Rattle.gaz_turns.specs.Turns.{State, Answer, made, same_state, Verdict, plain, memory, shelf, MayBe, MayStarve, IsReached, opens, answer_to, answer_by}
 use Rattle.gaz_turns.specs.Steps.{IsGiven}
-use Rattle.gaz_words.specs.declared.request.Request.{Request}
-use Rattle.gaz_words.specs.Grammar.{request_in}
+use Rattle.gaz_words.specs.Grammar.{RequestAsked, request_in}
 
 -- The station tells as before, and its count of faults says whether the call failed.
 pub record Reports {A E : Type 0} (old new : StationView) (result : Result A E) : Type 0 where
@@ -41,19 +40,19 @@ IsBlamed memory old new = IsUnblamed old new
 IsBlamed (shelf file) old new = FailedAt file old new
 
 -- the answer to a request that was read, by a verdict
-abbrev pub answer_of : Verdict → State → Files → Request → Answer
+abbrev pub answer_of : Verdict → State → Files → RequestAsked → Answer
 answer_of plain state files request = answer_to state files request
 answer_of memory state files request = same_state state (refused refusal.memory)
 answer_of (shelf file) state files request = same_state state (refused (refusal.shelf file))
 
 -- a request that was read may be met by the verdict
-abbrev pub MayMeet : Verdict → State → Files → Request → Type 0
+abbrev pub MayMeet : Verdict → State → Files → RequestAsked → Type 0
 MayMeet plain state files request = ⊤
 MayMeet memory state files request = MayStarve (Ok request)
 MayMeet (shelf file) state files request = IsReached files file (opens state (Ok request))
 
 -- A request that was read is met by a verdict that it may have, and this answer is given.
-pub record Meets {A E : Type 0} (files : Files) (request : Request) (state : State) (shelf shelf_now : ShelfView) (station station_now : StationView) (result : Result A E) : Type 0 where
+pub record Meets {A E : Type 0} (files : Files) (request : RequestAsked) (state : State) (shelf shelf_now : ShelfView) (station station_now : StationView) (result : Result A E) : Type 0 where
   pub verdict : Verdict
   pub may : MayMeet verdict state files request
   pub blamed : IsBlamed verdict shelf shelf_now

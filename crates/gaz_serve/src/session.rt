@@ -1,28 +1,32 @@
-//! A session: the gazetteer of an open mirror, the side of its text, and the buffer by which files are read.
+//! A session: the gazetteer of an open mirror, the side of its text, the buffer by which files are read, and the room for answers.
 ghost use Rattle.std.specs.Prelude.{◌≡◌, ◌⊎◌, ◌∷◌, [], Ok, None, IsTrue, IfOk, IfErr, IfSome, IsSome, OnOk, option_to_list};
 ghost use Rattle.gaz_outside.specs.Outside.{files_of};
 ghost use Rattle.gaz_num.specs.Refusal.{memory};
 ghost use Rattle.gaz_num.specs.declared.words.Table.TheVariants.{Rows};
 ghost use Rattle.gaz_plain.specs.Gazetteer.{Gazetteer, line_with};
+ghost use Rattle.gaz_pick.specs.Asked.{asked};
+ghost use Rattle.gaz_plain.specs.Search.{search_of};
+ghost use Rattle.gaz_words.specs.Grammar.{IsLimited};
 ghost use Rattle.gaz_plain.specs.Load.{load, day, load_files, in_sequence};
 ghost use Rattle.gaz_open.specs.Content.{Mirrors};
 ghost use Rattle.gaz_open.specs.Holds.{AllHold};
 ghost use Rattle.gaz_open.specs.Opens.{FailsOnce, IsNoMirror, IsOpening};
 ghost use Rattle.gaz_open.specs.declared.fault.Place.{Place};
 ghost use Rattle.gaz_reply.specs.Reply.{refused, rows};
-ghost use Rattle.gaz_turns.specs.Turns.{day_opens, if_loaded, same_state, made};
+ghost use Rattle.gaz_turns.specs.Turns.{AsksName, day_opens, if_loaded, same_state, made};
 ghost use Rattle.gaz_turns.specs.Steps.{IsGiven};
 ghost use Rattle.gaz_serve.specs.Change.{Blamed, BlamesReached, Closes, Gives};
 ghost use Rattle.gaz_serve.specs.Session.{IsOpen, state_of};
 ghost use Rattle.gaz_serve.specs.Step.{Finishes, Reports};
 
 use crate::change::{ChangeFault, follow, loaded, next_gazetteer};
-use crate::tell::tell_found;
+use crate::tell::{tell_answer, tell_found};
 use gaz_lines::LineCutter;
 use gaz_num::Day;
 use gaz_open::{OpenFault, open_plain};
 use gaz_outside::{Failed, Shelf, Station};
 use gaz_page::Side;
+use gaz_pick::{Best, Query};
 use gaz_plain::PlainGaz;
 use gaz_reply::{Done, Refusal, write_done, write_refusal};
 use gaz_store::{StoreFault, store};
@@ -35,7 +39,7 @@ const LINE_LIMIT: u32 = 65_535;
 /// Bytes of the longest file.
 const FILE_LIMIT: u64 = 1 << 40;
 
-/// An open mirror between two requests, and the buffer by which files are read.
+/// An open mirror between two requests, the buffer by which files are read, and the room for the answer to a search.
 #[derive(Drop)]
 pub struct Session {
     alloc: Global,
@@ -43,6 +47,7 @@ pub struct Session {
     /// The side of the text on the device, if it has one.
     side: Option<Side>,
     cutter: LineCutter,
+    best: Best,
 }
 
 impl Model for Session {
@@ -58,7 +63,7 @@ impl Model for Session {
 }
 
 impl Session {
-    /// Opens the mirror: reserves the buffer for files, syncs the areas, recovers from a stop, and reads the text. It prints
+    /// Opens the mirror: reserves the buffer for files and the room for answers, syncs the areas, recovers from a stop, and reads the text. It prints
     /// nothing.
     pub fn start<T: Station>(alloc: Global, station: &mut T) -> Result<Session, OpenFault>
         // The session has open what the areas mirror. Nothing is pending then: all outcomes have what the areas mirrored before.
@@ -76,12 +81,17 @@ impl Session {
             Ok(cutter) => cutter,
             Err(AllocError) => return Err(OpenFault::Memory),
         };
+        let best = match Best::new(alloc) {
+            Ok(best) => best,
+            Err(AllocError) => return Err(OpenFault::Memory),
+        };
         match open_plain(alloc, station) {
             Ok(mirror) => Ok(Session {
                 alloc,
                 gaz: mirror.gaz,
                 side: mirror.side,
                 cutter,
+                best,
             }),
             Err(fault) => Err(fault),
         }
@@ -179,6 +189,25 @@ impl Session {
         match self.gaz.date() {
             None => write_refusal(station, &Refusal::NotLoaded),
             Some(_) => tell_found(station, self.gaz.get(id)),
+        }
+    }
+
+    /// Tells the answer to a search, or that memory was wanting, which may be only where a name is asked for.
+    pub(crate) fn tell_search<T: Station>(
+        &mut self,
+        station: &mut T,
+        query: &Query<'_>,
+    ) -> Result<(), Failed>
+        requires { IsLimited (asked query.now) }
+        ensures given { IsGiven (same_state (state_of self.old) (if_loaded (state_of self.old) (rows (search_of self.old.lines (asked query.now))))) (state_of self.old) (T.view station.old) (T.view station.new) result
+            ⊎ (AsksName (asked query.now).name × IsGiven (same_state (state_of self.old) (refused memory)) (state_of self.old) (T.view station.old) (T.view station.new) result) }
+        ensures kept { self.new ≡ self.old }
+        ensures open { IsOpen self.old (T.view station.old) → IsOpen self.new (T.view station.new) }
+        ensures reports { Reports (T.view station.old) (T.view station.new) result }
+    {
+        match self.gaz.date() {
+            None => write_refusal(station, &Refusal::NotLoaded),
+            Some(_) => tell_answer(station, &self.gaz, &mut self.best, query),
         }
     }
 }

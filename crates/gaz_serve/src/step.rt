@@ -3,6 +3,7 @@ ghost use Rattle.std.specs.Prelude.{List, Ok, IsTrue, IfSome, OnOk};
 ghost use Rattle.gaz_outside.specs.Outside.{files_of};
 ghost use Rattle.gaz_num.specs.declared.words.FileName.{FileName};
 ghost use Rattle.gaz_open.specs.Content.{Mirrors};
+ghost use Rattle.gaz_words.specs.Grammar.{asked_of, IsWithinLimits};
 ghost use Rattle.gaz_turns.specs.Turns.{State, opens};
 ghost use Rattle.gaz_serve.specs.Change.{Closes};
 ghost use Rattle.gaz_serve.specs.Session.{IsOpen, state_of};
@@ -25,13 +26,14 @@ fn answer_request<F: Shelf, T: Station>(
     session: &mut Session,
     shelf: &mut F,
     station: &mut T,
-    request: &Request,
+    request: &Request<'_>,
 ) -> Result<(), Failed>
     requires open { IsOpen session.old (T.view station.old) }
-    ensures step { IfSome (files_of (F.view shelf.new)) (λ files. Meets files request.now (state_of session.old) (F.view shelf.old) (F.view shelf.new) (T.view station.old) (T.view station.new) result) }
+    requires within { IsWithinLimits (asked_of request.now) }
+    ensures step { IfSome (files_of (F.view shelf.new)) (λ files. Meets files (asked_of request.now) (state_of session.old) (F.view shelf.old) (F.view shelf.new) (T.view station.old) (T.view station.new) result) }
     ensures tells { TellsShelf (F.view shelf.old) (F.view shelf.new) (T.view station.old) (T.view station.new) result }
     ensures open { OnOk result (IsOpen session.new (T.view station.new)) }
-    ensures closes { Closes (opens (state_of session.old) (Ok request.now)) (F.view shelf.old) (F.view shelf.new) }
+    ensures closes { Closes (opens (state_of session.old) (Ok (asked_of request.now))) (F.view shelf.old) (F.view shelf.new) }
     ensures reports { Reports (T.view station.old) (T.view station.new) result }
 {
     match request {
@@ -44,6 +46,7 @@ fn answer_request<F: Shelf, T: Station>(
             session.finish(station, Done::Day(*date), made)
         }
         Request::Get(id) => session.tell_place(station, *id),
+        Request::Search(query) => session.tell_search(station, query),
     }
 }
 

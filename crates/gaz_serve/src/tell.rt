@@ -1,10 +1,19 @@
-//! A reply that tells at most one line.
-ghost use Rattle.std.specs.Prelude.{option_to_list, option_copied};
+//! Replies that tell lines.
+ghost use Rattle.std.specs.Prelude.{◌+◌, ◌<◌, ◌^◌, length, option_to_list, option_copied};
+ghost use Rattle.gaz_outside.specs.Outside.{Prints};
+ghost use Rattle.gaz_outside.specs.Station.{AreasStay};
 ghost use Rattle.gaz_reply.specs.Reply.{rows};
+ghost use Rattle.gaz_reply.specs.Tells.{MayBeCut};
+ghost use Rattle.gaz_pick.specs.Asked.{asked};
+ghost use Rattle.gaz_words.specs.Grammar.{IsLimited};
 ghost use Rattle.gaz_serve.specs.Step.{Replies, Reports};
+ghost use Rattle.gaz_serve.specs.Tell.{rest_text, TellsSearch};
 
 use gaz_outside::{Failed, Station};
-use gaz_reply::{write_end, write_row};
+use gaz_pick::{Best, Query};
+use gaz_plain::PlainGaz;
+use gaz_reply::{Refusal, write_end, write_refusal, write_row};
+use std::alloc::AllocError;
 
 /// Prints the line that was found, if there is one, and the number of lines.
 pub(crate) fn tell_found<T: Station>(station: &mut T, line: Option<&[u8]>) -> Result<(), Failed>
@@ -17,5 +26,48 @@ pub(crate) fn tell_found<T: Station>(station: &mut T, line: Option<&[u8]>) -> Re
             Err(failed) => Err(failed),
         },
         None => write_end(station, 0),
+    }
+}
+
+/// Prints the rows with the ids of these pairs, behind so many that were printed, and then the number of all. It calls itself
+/// once for each pair, and a search asks for at most 1,000.
+fn tell_rows<T: Station>(
+    station: &mut T,
+    gaz: &PlainGaz,
+    pairs: &[(i64, u32)],
+    told: u64,
+) -> Result<(), Failed>
+    requires { told + length pairs.now < 2 ^ 64 }
+    ensures printed { Prints (rest_text gaz.now pairs.now told) (T.view station.old) (T.view station.new) result }
+    ensures moments { MayBeCut (rest_text gaz.now pairs.now told) (T.view station.old) (T.view station.new) }
+    ensures areas { AreasStay (T.view station.old) (T.view station.new) }
+    ensures reports { Reports (T.view station.old) (T.view station.new) result }
+{
+    match pairs {
+        [first, rest @ ..] => match gaz.get(first.1) {
+            Some(line) => match write_row(station, line) {
+                Ok(()) => tell_rows(station, gaz, rest, told + 1),
+                Err(failed) => Err(failed),
+            },
+            None => tell_rows(station, gaz, rest, told),
+        },
+        [] => write_end(station, told),
+    }
+}
+
+/// Tells the answer to a search, the first of the rows that match, or that memory was wanting.
+pub(crate) fn tell_answer<T: Station>(
+    station: &mut T,
+    gaz: &PlainGaz,
+    best: &mut Best,
+    query: &Query<'_>,
+) -> Result<(), Failed>
+    requires { IsLimited (asked query.now) }
+    ensures tells { TellsSearch gaz.now (asked query.now) (T.view station.old) (T.view station.new) result }
+    ensures reports { Reports (T.view station.old) (T.view station.new) result }
+{
+    match gaz.select(query, best) {
+        Ok(()) => tell_rows(station, gaz, best.cut(query.start, query.max), 0),
+        Err(AllocError) => write_refusal(station, &Refusal::Memory),
     }
 }

@@ -4,11 +4,11 @@ use Rattle.std.specs.List.{AllByRecursion}
 use Rattle.gaz_outside.specs.Outside.{ShelfView}
 use Rattle.gaz_plain.specs.Load.{Files}
 use Rattle.gaz_words.specs.Grammar.{request_in}
-use Rattle.gaz_turns.specs.Turns.{Turn, MayStarve, FilesFollow, HaveFiles, HasOnly}
+use Rattle.gaz_turns.specs.Turns.{Turn, ReadsFiles, FilesFollow, HaveFiles, HasOnly}
 
 -- one turn more, with the files that it found
 pub follow_more : (files : Files) (earlier : List Files) (turns : List Turn) (turn : Turn) (mid : Files) (earlier_mid : List Files) (now : Files) (earlier_now : List Files)
-    → FilesFollow files earlier turns mid earlier_mid → turn.files ≡ now → ((now ≡ mid) × (earlier_now ≡ earlier_mid)) ⊎ (MayStarve (request_in turn.line) × (earlier_now ≡ mid ∷ earlier_mid))
+    → FilesFollow files earlier turns mid earlier_mid → turn.files ≡ now → ((now ≡ mid) × (earlier_now ≡ earlier_mid)) ⊎ (ReadsFiles (request_in turn.line) × (earlier_now ≡ mid ∷ earlier_mid))
     → FilesFollow files earlier (turns ++ turn ∷ []) now earlier_now
 follow_more files earlier [] turn mid earlier_mid now earlier_now ends has (inl same) = inl (has ∙ same.0 ∙ ends.0, (same.0 ∙ ends.0, same.1 ∙ ends.1))
 follow_more files earlier [] turn mid earlier_mid now earlier_now ends has (inr other) =

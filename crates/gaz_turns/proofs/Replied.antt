@@ -1,7 +1,7 @@
 -- Each reply is whole lines, of which one is an acknowledgement where the reply tells a change, and none else.
 use Rattle.std.proofs.Common.{◌≡◌, ℕ, suc, Bool, true, false, ◌||◌, cond, true≢false, List, [], ◌∷◌, ◌++◌, length, refl, sym, ◌∙◌, ap, arith, Option, Some, None}
 use Rattle.std.specs.Prelude.{⊤, codes, decimal, count_by, is_some, is_none, Result, Ok, Err, ok_or, option_to_list, find, if◌then◌else◌, ◌==◌}
-use Rattle.std.specs.List.{AllByRecursion}
+use Rattle.std.specs.List.{AllByRecursion, cons_option}
 use Rattle.gaz_num.specs.declared.words.Reason.{Reason}
 use Rattle.gaz_num.specs.declared.words.Reason.TheVariants.{Length, Utf8, Columns, Id, Latitude, Longitude, Population, Elevation, Dem, Date}
 use Rattle.gaz_num.specs.declared.words.FileName.{FileName}
@@ -15,11 +15,15 @@ use Rattle.gaz_num.specs.Refusal.{Refusal, ◌>>=◌}
 use Rattle.gaz_plain.specs.Gazetteer.{Gazetteer, empty, dated, step, lines_in, table_of, limit_of, line_with}
 use Rattle.gaz_plain.specs.Gazetteer.{LineFault, after_line}
 use Rattle.gaz_plain.specs.Gazetteer as fault_of_line
+use Rattle.gaz_pick.specs.Order.{Pair}
+use Rattle.gaz_plain.specs.Search.{answer_pairs, rows_at, search_of}
 use Rattle.gaz_plain.specs.Fold as met
 use Rattle.gaz_plain.specs.Fold.{File, Item, items_in, in_place, after_item, after_items, fold}
 use Rattle.gaz_plain.specs.Load.{Files, files_of, load_files, day_files, load, day, in_sequence}
-use Rattle.gaz_words.specs.declared.request.Request.{Request}
-use Rattle.gaz_words.specs.declared.request.Request.TheVariants as request_of
+use Rattle.gaz_words.specs.declared.parameter.Parameter.{Parameter}
+use Rattle.gaz_words.specs.declared.parameter.Parameter.TheVariants as parameter_of
+use Rattle.gaz_words.specs.Search.{parameter_name}
+use Rattle.gaz_words.specs.Grammar.{RequestAsked, asks_load, asks_day, asks_get, asks_search}
 use Rattle.gaz_words.specs.declared.request.BadRequest.{BadRequest}
 use Rattle.gaz_words.specs.declared.request.BadRequest.TheVariants as bad_of
 use Rattle.gaz_words.specs.Grammar.{request_in, bad_word}
@@ -139,12 +143,33 @@ malformed_line file n reason = words_line (codes "refused" ∷ codes "malformed"
 full_line : (file : FileName) (n : ℕ) (table : Table) → IsLine (refusal.full file n table)
 full_line file n table = words_line (codes "refused" ∷ codes "full" ∷ file_text file ∷ decimal n ∷ table_text table ∷ []) (refl, (refl, (file_line file, (decimal_line n, (table_line table, tt)))))
 
+value_line : (parameter : Parameter) → IsLine (refusal.request (parameter_name parameter))
+value_line parameter_of.NameEquals = refl
+value_line parameter_of.NameStarts = refl
+value_line parameter_of.Country = refl
+value_line parameter_of.FeatureClass = refl
+value_line parameter_of.FeatureCode = refl
+value_line parameter_of.AdminCode1 = refl
+value_line parameter_of.AdminCode2 = refl
+value_line parameter_of.AdminCode3 = refl
+value_line parameter_of.SearchLang = refl
+value_line parameter_of.North = refl
+value_line parameter_of.South = refl
+value_line parameter_of.East = refl
+value_line parameter_of.West = refl
+value_line parameter_of.OrderBy = refl
+value_line parameter_of.MaxRows = refl
+value_line parameter_of.StartRow = refl
+
 bad_line : (bad : BadRequest) → IsLine (refusal.request (bad_word bad))
 bad_line bad_of.Length = refl
 bad_line bad_of.Utf8 = refl
 bad_line bad_of.Verb = refl
 bad_line bad_of.Date = refl
 bad_line bad_of.Id = refl
+bad_line bad_of.Parameter = refl
+bad_line (bad_of.Value parameter) = value_line parameter
+bad_line bad_of.Box = refl
 
 -- a refusal in this result is one line
 abbrev InLine : {A : Type 0} → Result A Refusal → Type 0
@@ -220,16 +245,28 @@ found_stored test (line ∷ lines) h = either (test line) (found_stored test lin
     either true more = (h.0, tt)
     either false more = more
 
+-- the rows of pairs are rows of the gazetteer
+all_found : (gaz : Gazetteer) (pairs : List Pair) → AllByRecursion IsStored gaz.rows → AllByRecursion IsStored (rows_at gaz pairs)
+all_found gaz [] h = tt
+all_found gaz (pair ∷ pairs) h = with_found (line_with table_of_name.Rows (pair.1 ∷ []) gaz) (found_stored _ gaz.rows h) (all_found gaz pairs h)
+  where
+    with_found : (found : Option (List ℕ)) → AllByRecursion IsStored (option_to_list found) → AllByRecursion IsStored (rows_at gaz pairs) → AllByRecursion IsStored (cons_option found (rows_at gaz pairs))
+    with_found None one more = more
+    with_found (Some line) one more = (one.0, more)
+
 if_marked : (b : Bool) (x y : Reply) → IsMarked x → IsMarked y → IsMarked (if b then x else y)
 if_marked true x y h k = h
 if_marked false x y h k = k
 
-read_marked : (state : State) (files : Files) (r : Result Request BadRequest) → AllByRecursion IsStored state.gaz.rows → ((date : ℕ) → date_in r ≡ Some date → is_some (day_in (date_text date)) ≡ true) → IsMarked (answer_to_read state files r).reply
-read_marked state files (Ok (request_of.Load date)) stored again = changed_marked state (done_of.Load date) (load files date) (again date refl) (load_in files date)
-read_marked state files (Ok (request_of.Day date)) stored again = changed_marked state (done_of.Day date) (day state.gaz files date) (again date refl) (day_in_line state.gaz files date)
-read_marked state files (Ok (request_of.Get id)) stored again =
+read_marked : (state : State) (files : Files) (r : Result RequestAsked BadRequest) → AllByRecursion IsStored state.gaz.rows → ((date : ℕ) → date_in r ≡ Some date → is_some (day_in (date_text date)) ≡ true) → IsMarked (answer_to_read state files r).reply
+read_marked state files (Ok (asks_load date)) stored again = changed_marked state (done_of.Load date) (load files date) (again date refl) (load_in files date)
+read_marked state files (Ok (asks_day date)) stored again = changed_marked state (done_of.Day date) (day state.gaz files date) (again date refl) (day_in_line state.gaz files date)
+read_marked state files (Ok (asks_get id)) stored again =
     let lines = option_to_list (line_with table_of_name.Rows (id ∷ []) state.gaz) in
     if_marked (is_none state.gaz.date) (refused refusal.not_loaded) (rows lines) (refused_marked refusal.not_loaded refl) (rows_marked lines (found_stored _ state.gaz.rows stored))
+read_marked state files (Ok (asks_search asked)) stored again =
+    if_marked (is_none state.gaz.date) (refused refusal.not_loaded) (rows (search_of state.gaz asked)) (refused_marked refusal.not_loaded refl)
+    (rows_marked (search_of state.gaz asked) (all_found state.gaz (answer_pairs state.gaz asked) stored))
 read_marked state files (Err bad) stored again = refused_marked (refusal.request (bad_word bad)) (bad_line bad)
 
 pub answer_marked : (verdict : Verdict) (state : State) (files : Files) (line : List ℕ) → AllByRecursion IsStored state.gaz.rows → IsMarked (answer_by verdict state files line).reply

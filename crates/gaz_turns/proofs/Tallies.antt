@@ -4,8 +4,7 @@ use Rattle.std.specs.Prelude.{map, if◌then◌else◌, slice_get, is_some, Resu
 use Rattle.gaz_num.specs.Refusal.{Refusal}
 use Rattle.gaz_plain.specs.Gazetteer.{Gazetteer}
 use Rattle.gaz_plain.specs.Load.{Files, load, day}
-use Rattle.gaz_words.specs.declared.request.Request.{Request}
-use Rattle.gaz_words.specs.declared.request.Request.TheVariants as request_of
+use Rattle.gaz_words.specs.Grammar.{RequestAsked, asks_load, asks_day, asks_get, asks_search}
 use Rattle.gaz_words.specs.declared.request.BadRequest.{BadRequest}
 use Rattle.gaz_words.specs.Grammar.{request_in}
 use Rattle.gaz_reply.specs.declared.reply.Done.{Done}
@@ -44,10 +43,11 @@ changed_same : (state : State) (change : Done) (r : Result Gazetteer Refusal) �
 changed_same state change (Ok gaz) h = absurd (true≢false h)
 changed_same state change (Err why) h = refl
 
-read_same : (state : State) (files : Files) (r : Result Request BadRequest) → is_change (answer_to_read state files r).reply ≡ false → (answer_to_read state files r).state ≡ state
-read_same state files (Ok (request_of.Load date)) h = changed_same state (done_of.Load date) (load files date) h
-read_same state files (Ok (request_of.Day date)) h = changed_same state (done_of.Day date) (day state.gaz files date) h
-read_same state files (Ok (request_of.Get id)) h = refl
+read_same : (state : State) (files : Files) (r : Result RequestAsked BadRequest) → is_change (answer_to_read state files r).reply ≡ false → (answer_to_read state files r).state ≡ state
+read_same state files (Ok (asks_load date)) h = changed_same state (done_of.Load date) (load files date) h
+read_same state files (Ok (asks_day date)) h = changed_same state (done_of.Day date) (day state.gaz files date) h
+read_same state files (Ok (asks_get id)) h = refl
+read_same state files (Ok (asks_search asked)) h = refl
 read_same state files (Err bad) h = refl
 
 pub same_by : (verdict : Verdict) (state : State) (files : Files) (line : List ℕ) → is_change (answer_by verdict state files line).reply ≡ false → (answer_by verdict state files line).state ≡ state

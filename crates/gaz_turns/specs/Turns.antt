@@ -8,11 +8,11 @@ use Rattle.gaz_num.specs.Words.{file_text}
 use Rattle.gaz_num.specs.Refusal as refusal
 use Rattle.gaz_num.specs.Refusal.{Refusal}
 use Rattle.gaz_plain.specs.Gazetteer.{Gazetteer, empty, line_with}
+use Rattle.gaz_pick.specs.Asked.{NameAsked, absent, equals, starts}
+use Rattle.gaz_plain.specs.Search.{search_of}
 use Rattle.gaz_plain.specs.Load.{Files, load, day, load_files, day_files, in_sequence}
-use Rattle.gaz_words.specs.declared.request.Request.{Request}
-use Rattle.gaz_words.specs.declared.request.Request.TheVariants.{Load, Day, Get}
 use Rattle.gaz_words.specs.declared.request.BadRequest.{BadRequest}
-use Rattle.gaz_words.specs.Grammar.{request_in, bad_word}
+use Rattle.gaz_words.specs.Grammar.{RequestAsked, asks_load, asks_day, asks_get, asks_search, request_in, bad_word}
 use Rattle.gaz_reply.specs.declared.reply.Done.{Done}
 use Rattle.gaz_reply.specs.declared.reply.Done.TheVariants as done_of
 use Rattle.gaz_reply.specs.Reply.{Reply, done, rows, refused, reply_text, is_change}
@@ -48,14 +48,15 @@ abbrev pub if_loaded : State → Reply → Reply
 if_loaded state reply = if is_none state.gaz.date then refused refusal.not_loaded else reply
 
 -- the answer to a request
-abbrev pub answer_to : State → Files → Request → Answer
-answer_to state files (Load date) = changed state (done_of.Load date) (load files date)
-answer_to state files (Day date) = changed state (done_of.Day date) (day state.gaz files date)
-answer_to state files (Get id) =
+abbrev pub answer_to : State → Files → RequestAsked → Answer
+answer_to state files (asks_load date) = changed state (done_of.Load date) (load files date)
+answer_to state files (asks_day date) = changed state (done_of.Day date) (day state.gaz files date)
+answer_to state files (asks_get id) =
     same_state state (if_loaded state (rows (option_to_list (line_with Rows (id ∷ []) state.gaz))))
+answer_to state files (asks_search asked) = same_state state (if_loaded state (rows (search_of state.gaz asked)))
 
 -- the answer to a line that was read, or refused by the grammar
-abbrev pub answer_to_read : State → Files → Result Request BadRequest → Answer
+abbrev pub answer_to_read : State → Files → Result RequestAsked BadRequest → Answer
 answer_to_read state files (Ok request) = answer_to state files request
 answer_to_read state files (Err bad) = same_state state (refused (refusal.request (bad_word bad)))
 
@@ -81,10 +82,11 @@ day_opens (Ok next) = day_files next
 day_opens (Err why) = []
 
 -- the files that a request opens, none where it is refused before that
-abbrev pub opens : State → Result Request BadRequest → List FileName
-opens state (Ok (Load date)) = load_files
-opens state (Ok (Day date)) = day_opens (in_sequence state.gaz.date date)
-opens state (Ok (Get id)) = []
+abbrev pub opens : State → Result RequestAsked BadRequest → List FileName
+opens state (Ok (asks_load date)) = load_files
+opens state (Ok (asks_day date)) = day_opens (in_sequence state.gaz.date date)
+opens state (Ok (asks_get id)) = []
+opens state (Ok (asks_search asked)) = []
 opens state (Err bad) = []
 
 -- the file is one of these, and none before it is absent
@@ -92,11 +94,26 @@ abbrev pub IsReached : Files → FileName → List FileName → Type 0
 IsReached files file [] = ⊥
 IsReached files file (name ∷ names) = (name ≡ file) ⊎ (IsSome (files (file_text name)) × IsReached files file names)
 
--- a request that may be refused for want of memory: one that reads files
-abbrev pub MayStarve : Result Request BadRequest → Type 0
-MayStarve (Ok (Load date)) = ⊤
-MayStarve (Ok (Day date)) = ⊤
-MayStarve (Ok (Get id)) = ⊥
+-- a request that reads files
+abbrev pub ReadsFiles : Result RequestAsked BadRequest → Type 0
+ReadsFiles (Ok (asks_load date)) = ⊤
+ReadsFiles (Ok (asks_day date)) = ⊤
+ReadsFiles (Ok (asks_get id)) = ⊥
+ReadsFiles (Ok (asks_search asked)) = ⊥
+ReadsFiles (Err bad) = ⊥
+
+-- a name is asked for
+abbrev pub AsksName : NameAsked → Type 0
+AsksName absent = ⊥
+AsksName (equals value) = ⊤
+AsksName (starts value) = ⊤
+
+-- a request that may be refused for want of memory: one that reads files, or that asks for a name
+abbrev pub MayStarve : Result RequestAsked BadRequest → Type 0
+MayStarve (Ok (asks_load date)) = ⊤
+MayStarve (Ok (asks_day date)) = ⊤
+MayStarve (Ok (asks_get id)) = ⊥
+MayStarve (Ok (asks_search asked)) = AsksName asked.name
 MayStarve (Err bad) = ⊥
 
 -- a request may be met by the verdict
@@ -178,7 +195,7 @@ abbrev pub FilesFollow : Files → List Files → List Turn → Files → List F
 FilesFollow files earlier [] now earlier_now = (now ≡ files) × (earlier_now ≡ earlier)
 FilesFollow files earlier (turn ∷ turns) now earlier_now =
     ((turn.files ≡ files) × FilesFollow files earlier turns now earlier_now)
-    ⊎ (MayStarve (request_in turn.line) × FilesFollow turn.files (files ∷ earlier) turns now earlier_now)
+    ⊎ (ReadsFiles (request_in turn.line) × FilesFollow turn.files (files ∷ earlier) turns now earlier_now)
 
 -- Each turn has the files that the shelf had then.
 abbrev pub HaveFiles : ShelfView → List Turn → ShelfView → Type 0

@@ -66,7 +66,7 @@ pub(crate) fn tell_delete(rt: &HostRuntime, line: &[u8]) -> io::Result<()> {
 }
 
 /// What the request asks, with the number of its date.
-fn print_request(rt: &HostRuntime, request: Request) -> io::Result<()> {
+fn print_request(rt: &HostRuntime, request: Request<'_>) -> io::Result<()> {
     match request {
         Request::Load(day) => {
             let number = day.number();
@@ -77,6 +77,10 @@ fn print_request(rt: &HostRuntime, request: Request) -> io::Result<()> {
             println!(rt; "day {number}")
         }
         Request::Get(id) => println!(rt; "get of {id}"),
+        Request::Search(query) => {
+            let (start, most) = (query.start, query.max);
+            println!(rt; "search from {start}, at most {most}")
+        }
     }
 }
 

@@ -4,19 +4,21 @@ use Rattle.std.specs.Prelude.{not, is_some, Result, Ok, Err, ok_or, option_map, 
 use Rattle.std.specs.Str.{is_utf8}
 use Rattle.gaz_num.specs.Numbers.{id_in}
 use Rattle.gaz_num.specs.Dates.{day_in}
-use Rattle.gaz_words.specs.declared.request.Request.{Request}
-use Rattle.gaz_words.specs.declared.request.Request.TheVariants as request_of
+use Rattle.gaz_num.specs.Refusal.{◌>>=◌}
+use Rattle.gaz_pick.specs.Asked.{Asked}
 use Rattle.gaz_words.specs.declared.request.BadRequest.{BadRequest}
 use Rattle.gaz_words.specs.declared.request.BadRequest.TheVariants as bad_of
 use Rattle.gaz_words.specs.declared.request.Verb.{Verb}
 use Rattle.gaz_words.specs.declared.request.Verb.TheVariants as verb
-use Rattle.gaz_words.specs.Grammar.{request_in, request_by, with_rest, rest_of, verb_of, verb_in, request_limit}
+use Rattle.gaz_words.specs.Search.{search_in}
+use Rattle.gaz_words.specs.Grammar.{RequestAsked, asks_load, asks_day, asks_get, asks_search, request_in, request_by, with_rest, rest_of, verb_of, verb_in, request_limit}
 
 -- the date of a change that is asked for
-abbrev pub date_in : Result Request BadRequest → Option ℕ
-date_in (Ok (request_of.Load date)) = Some date
-date_in (Ok (request_of.Day date)) = Some date
-date_in (Ok (request_of.Get id)) = None
+abbrev pub date_in : Result RequestAsked BadRequest → Option ℕ
+date_in (Ok (asks_load date)) = Some date
+date_in (Ok (asks_day date)) = Some date
+date_in (Ok (asks_get id)) = None
+date_in (Ok (asks_search asked)) = None
 date_in (Err bad) = None
 
 none_some : {X : Type 0} (x : X) → None ≡ Some x → ⊥
@@ -26,23 +28,27 @@ none_some x h = true≢false (sym (ap is_some h))
 abbrev pub WasRead : ℕ → Type 0
 WasRead date = (text : List ℕ) × (day_in text ≡ Some date)
 
-load_date : (o : Option ℕ) → date_in (ok_or (option_map request_of.Load o) bad_of.Date) ≡ o
+load_date : (o : Option ℕ) → date_in (ok_or (option_map asks_load o) bad_of.Date) ≡ o
 load_date None = refl
 load_date (Some date) = refl
 
-day_date : (o : Option ℕ) → date_in (ok_or (option_map request_of.Day o) bad_of.Date) ≡ o
+day_date : (o : Option ℕ) → date_in (ok_or (option_map asks_day o) bad_of.Date) ≡ o
 day_date None = refl
 day_date (Some date) = refl
 
-get_date : (o : Option ℕ) → date_in (ok_or (option_map request_of.Get o) bad_of.Id) ≡ None
+get_date : (o : Option ℕ) → date_in (ok_or (option_map asks_get o) bad_of.Id) ≡ None
 get_date None = refl
 get_date (Some id) = refl
 
-load_rest : (rest : Option (List ℕ)) (date : ℕ) → date_in (with_rest day_in request_of.Load bad_of.Date rest) ≡ Some date → WasRead date
+search_date : (read : Result Asked BadRequest) → date_in (read >>= λ asked. Ok (asks_search asked)) ≡ None
+search_date (Ok asked) = refl
+search_date (Err bad) = refl
+
+load_rest : (rest : Option (List ℕ)) (date : ℕ) → date_in (with_rest day_in asks_load bad_of.Date rest) ≡ Some date → WasRead date
 load_rest None date h = absurd (none_some date h)
 load_rest (Some text) date h = (text, sym (load_date (day_in text)) ∙ h)
 
-day_rest : (rest : Option (List ℕ)) (date : ℕ) → date_in (with_rest day_in request_of.Day bad_of.Date rest) ≡ Some date → WasRead date
+day_rest : (rest : Option (List ℕ)) (date : ℕ) → date_in (with_rest day_in asks_day bad_of.Date rest) ≡ Some date → WasRead date
 day_rest None date h = absurd (none_some date h)
 day_rest (Some text) date h = (text, sym (day_date (day_in text)) ∙ h)
 
@@ -50,6 +56,7 @@ by_verb : (read : Option Verb) (rest : Option (List ℕ)) (date : ℕ) → date_
 by_verb (Some verb.Load) rest date h = load_rest rest date h
 by_verb (Some verb.Day) rest date h = day_rest rest date h
 by_verb (Some verb.Get) rest date h = absurd (none_some date (sym (get_date (option_and_then id_in rest)) ∙ h))
+by_verb (Some verb.Search) rest date h = absurd (none_some date (sym (search_date (search_in rest)) ∙ h))
 by_verb None rest date h = absurd (none_some date h)
 
 by_tests : (long bad : Bool) (read : Option Verb) (rest : Option (List ℕ)) (date : ℕ)

@@ -1,16 +1,49 @@
 -- What a request line asks, or its first bad word.
-use Rattle.std.specs.Prelude.{ℕ, ◌+◌, Bool, drop, position, not, List, length, codes, Option, Some, None, Result, Err, ok_or, option_map, option_and_then, if◌then◌else◌, ◌==◌, nat_lt}
+use Rattle.std.specs.Prelude.{ℕ, ◌≤◌, ⊤, Bool, not, List, length, codes, Option, Some, None, Result, Ok, Err, ok_or, option_map, option_and_then, if◌then◌else◌, ◌==◌, nat_lt}
 use Rattle.std.specs.Str.{is_utf8, bytes_eq}
-use Rattle.std.specs.List.{before_first}
+use Rattle.std.specs.List.{list_any, before_first, after_first}
 use Rattle.gaz_num.specs.Numbers.{id_in}
 use Rattle.gaz_num.specs.Dates.{day_in}
+use Rattle.gaz_num.specs.Refusal.{◌>>=◌}
+use Rattle.gaz_pick.specs.Asked.{Asked, asked}
 use Rattle.gaz_words.specs.declared.request.Request.{Request}
-use Rattle.gaz_words.specs.declared.request.Request.TheVariants.{Load, Day, Get}
+use Rattle.gaz_words.specs.declared.request.Request.TheVariants.{Load, Day, Get, Search}
 use Rattle.gaz_words.specs.declared.request.BadRequest.{BadRequest}
 use Rattle.gaz_words.specs.declared.request.BadRequest.TheVariants.{Length, Utf8, Date, Id}
 use Rattle.gaz_words.specs.declared.request.BadRequest.TheVariants as bad
 use Rattle.gaz_words.specs.declared.request.Verb.{Verb}
 use Rattle.gaz_words.specs.declared.request.Verb.TheVariants as verb
+use Rattle.gaz_words.specs.Search.{parameter_name, search_in}
+
+-- what a request line asks
+pub data RequestAsked : Type 0 where
+  -- to load the dump, which is of this date
+  asks_load : ℕ → RequestAsked
+  -- to apply the daily files of this date
+  asks_day : ℕ → RequestAsked
+  -- to tell the place with this id
+  asks_get : ℕ → RequestAsked
+  -- to tell the first places of those that pass some tests
+  asks_search : Asked → RequestAsked
+
+-- what a request asks
+abbrev pub asked_of : Request → RequestAsked
+asked_of (Load date) = asks_load date
+asked_of (Day date) = asks_day date
+asked_of (Get id) = asks_get id
+asked_of (Search query) = asks_search (asked query)
+
+-- A search asks for the rows from the 5,000th on at most, and for 1,000 of them at most.
+pub record IsLimited (asked : Asked) : Type 0 where
+  pub start : asked.start ≤ 5000
+  pub max : asked.max ≤ 1000
+
+-- What is asked lies within the limits of a search.
+abbrev pub IsWithinLimits : RequestAsked → Type 0
+IsWithinLimits (asks_load date) = ⊤
+IsWithinLimits (asks_day date) = ⊤
+IsWithinLimits (asks_get id) = ⊤
+IsWithinLimits (asks_search asked) = IsLimited asked
 
 -- a bad word as it is printed
 abbrev pub bad_word : BadRequest → List ℕ
@@ -19,6 +52,9 @@ bad_word Utf8 = codes "utf8"
 bad_word bad.Verb = codes "verb"
 bad_word Date = codes "date"
 bad_word Id = codes "id"
+bad_word bad.Parameter = codes "parameter"
+bad_word (bad.Value parameter) = parameter_name parameter
+bad_word bad.Box = codes "box"
 
 -- the byte is a space
 abbrev pub is_space : ℕ → Bool
@@ -30,7 +66,7 @@ verb_of line = before_first is_space line
 
 -- the text behind the first space, if there is one
 abbrev pub rest_of : List ℕ → Option (List ℕ)
-rest_of line = option_map (λ place. drop (place + 1) line) (position is_space line)
+rest_of line = if list_any is_space line then Some (after_first is_space line) else None
 
 -- the verb that a text is, if it is one that is built
 abbrev pub verb_in : List ℕ → Option Verb
@@ -38,17 +74,19 @@ verb_in text =
     if bytes_eq text (codes "load") then Some verb.Load
     else if bytes_eq text (codes "day") then Some verb.Day
     else if bytes_eq text (codes "get") then Some verb.Get
+    else if bytes_eq text (codes "search") then Some verb.Search
     else None
 
 -- what the rest of the line gives, or the bad word of a rest that isn't there or isn't read
-abbrev pub with_rest : {X : Type 0} → (List ℕ → Option X) → (X → Request) → BadRequest → Option (List ℕ) → Result Request BadRequest
+abbrev pub with_rest : {X : Type 0} → (List ℕ → Option X) → (X → RequestAsked) → BadRequest → Option (List ℕ) → Result RequestAsked BadRequest
 with_rest read make bad rest = ok_or (option_map make (option_and_then read rest)) bad
 
 -- what a verb asks with the rest of the line
-abbrev pub request_by : Option Verb → Option (List ℕ) → Result Request BadRequest
-request_by (Some verb.Load) rest = with_rest day_in Load Date rest
-request_by (Some verb.Day) rest = with_rest day_in Day Date rest
-request_by (Some verb.Get) rest = with_rest id_in Get Id rest
+abbrev pub request_by : Option Verb → Option (List ℕ) → Result RequestAsked BadRequest
+request_by (Some verb.Load) rest = with_rest day_in asks_load Date rest
+request_by (Some verb.Day) rest = with_rest day_in asks_day Date rest
+request_by (Some verb.Get) rest = with_rest id_in asks_get Id rest
+request_by (Some verb.Search) rest = search_in rest >>= λ asked. Ok (asks_search asked)
 request_by None rest = Err bad.Verb
 
 -- the bytes in the longest request line
@@ -56,7 +94,7 @@ abbrev pub request_limit : ℕ
 request_limit = 4096
 
 -- what a line asks, or its first bad word
-unfoldable pub request_in : List ℕ → Result Request BadRequest
+unfoldable pub request_in : List ℕ → Result RequestAsked BadRequest
 request_in line =
     if nat_lt request_limit (length line) then Err Length
     else if not (is_utf8 line) then Err Utf8

@@ -1,8 +1,11 @@
 //! The request language: `read_request` answers what a request line asks, or the first bad word of it.
-//! Both are exactly those of the grammar in specs/Grammar.antt. A verb whose request isn't built yet is an unknown verb.
+//! Both are exactly those of the grammar in specs/, Grammar.antt and, for a search, Search.antt. A verb whose request isn't built yet is an unknown verb.
 //! No call takes memory.
 #![tactic(auto)]
 
+mod parameter;
 mod request;
+mod search;
 
+pub use parameter::Parameter;
 pub use request::{BadRequest, Request, read_request};

@@ -1,23 +1,30 @@
 //! What a request line asks.
-ghost use Rattle.std.specs.Prelude.{◌≡◌, option_copied, option_and_then, position};
+ghost use Rattle.std.specs.Prelude.{◌≡◌, true, false, option_copied, option_and_then, MatchOption, MatchResult, IfOk};
+ghost use Rattle.std.specs.Str.{is_utf8};
 ghost use Rattle.gaz_num.specs.Dates.{day_in};
 ghost use Rattle.gaz_num.specs.Numbers.{id_in};
-ghost use Rattle.gaz_words.specs.Grammar.{bad_word, is_space, verb_of, rest_of, verb_in, request_by, request_in};
+ghost use Rattle.gaz_words.specs.Grammar.{asked_of, IsWithinLimits, bad_word, verb_of, rest_of, verb_in, request_by, request_in};
 
-use gaz_num::{Day, is_text, read_date, read_id};
+use crate::parameter::Parameter;
+use crate::search::read_search;
+use gaz_num::{Day, read_date, read_id};
+use gaz_pick::Query;
+use std::str::from_utf8;
 
 /// Bytes in the longest request line.
 const LONGEST: usize = 4096;
 
 /// What a request line asks.
-#[derive(Clone, Copy, Debug, PartialEq, Eq)]
-pub enum Request {
+#[derive(Clone, Copy, Debug)]
+pub enum Request<'a> {
     /// Load the dump, which is of this date.
     Load(Day),
     /// Apply the daily files of this date.
     Day(Day),
     /// Tell the place with this id.
     Get(u32),
+    /// Tell the first places of those that pass the tests of the query.
+    Search(Query<'a>),
 }
 
 /// The first word of a request line.
@@ -26,6 +33,7 @@ enum Verb {
     Load,
     Day,
     Get,
+    Search,
 }
 
 /// The first bad word of a request line.
@@ -41,6 +49,12 @@ pub enum BadRequest {
     Date,
     /// What stands behind the verb is no id.
     Id,
+    /// What stands between two tabs has no `=` behind the name of a parameter.
+    Parameter,
+    /// The parameter was given before, or its value is bad, or it is a second name test.
+    Value(Parameter),
+    /// Some edges of a box are given and not all, or its south lies north of its north.
+    Box,
 }
 
 impl BadRequest {
@@ -54,62 +68,74 @@ impl BadRequest {
             BadRequest::Verb => "verb",
             BadRequest::Date => "date",
             BadRequest::Id => "id",
+            BadRequest::Parameter => "parameter",
+            BadRequest::Value(parameter) => parameter.name(),
+            BadRequest::Box => "box",
         }
     }
 }
 
-fn find_space(line: &[u8]) -> Option<usize>
-    ensures { result ≡ position is_space line.now }
+/// The bytes as a text, if they are UTF-8.
+fn text_of(bytes: &[u8]) -> Option<&str>
+    ensures { MatchOption result (is_utf8 bytes.now ≡ false) (λ text. (is_utf8 bytes.now ≡ true) × (text.now ≡ bytes.now)) }
 {
-    line.iter().position(|byte| *byte == b' ')
+    match from_utf8(bytes) {
+        Ok(text) => Some(text),
+        Err(_) => None,
+    }
 }
 
 /// What stands before the first space, and what stands behind it, if there is one.
-fn split_verb(line: &[u8]) -> (&[u8], Option<&[u8]>)
+fn split_verb(line: &str) -> (&str, Option<&str>)
     ensures verb { result.0.now ≡ verb_of line.now }
     ensures rest { option_copied result.1 ≡ rest_of line.now }
 {
-    match find_space(line) {
-        Some(at) => (&line[..at], Some(&line[at + 1..])),
+    match line.split_once(' ') {
+        Some((verb, rest)) => (verb, Some(rest)),
         None => (line, None),
     }
 }
 
-fn read_verb(text: &[u8]) -> Option<Verb>
+fn read_verb(text: &str) -> Option<Verb>
     ensures { result ≡ verb_in text.now }
 {
-    if text == b"load".as_slice() {
+    if text == "load" {
         Some(Verb::Load)
-    } else if text == b"day".as_slice() {
+    } else if text == "day" {
         Some(Verb::Day)
-    } else if text == b"get".as_slice() {
+    } else if text == "get" {
         Some(Verb::Get)
+    } else if text == "search" {
+        Some(Verb::Search)
     } else {
         None
     }
 }
 
-fn date_in_rest(rest: Option<&[u8]>) -> Option<Day>
+fn date_in_rest(rest: Option<&str>) -> Option<Day>
     ensures { result ≡ option_and_then day_in (option_copied rest.entry) }
 {
     match rest {
-        Some(text) => read_date(text),
+        Some(text) => read_date(text.as_bytes()),
         None => None,
     }
 }
 
-fn id_in_rest(rest: Option<&[u8]>) -> Option<u32>
+fn id_in_rest(rest: Option<&str>) -> Option<u32>
     ensures { result ≡ option_and_then id_in (option_copied rest.entry) }
 {
     match rest {
-        Some(text) => read_id(text),
+        Some(text) => read_id(text.as_bytes()),
         None => None,
     }
 }
 
 /// What the verb asks with the rest of the line.
-fn request_of(verb: Option<Verb>, rest: Option<&[u8]>) -> Result<Request, BadRequest>
-    ensures { result ≡ request_by verb (option_copied rest.entry) }
+fn request_of<'a>(verb: Option<Verb>, rest: Option<&'a str>) -> Result<Request<'a>, BadRequest>
+    ensures asked { MatchResult result
+        (λ request. request_by verb (option_copied rest.entry) ≡ Ok (asked_of request))
+        (λ bad. request_by verb (option_copied rest.entry) ≡ Err bad) }
+    ensures within { IfOk result (λ request. IsWithinLimits (asked_of request)) }
 {
     match verb {
         Some(Verb::Load) => match date_in_rest(rest) {
@@ -124,21 +150,28 @@ fn request_of(verb: Option<Verb>, rest: Option<&[u8]>) -> Result<Request, BadReq
             Some(id) => Ok(Request::Get(id)),
             None => Err(BadRequest::Id),
         },
+        Some(Verb::Search) => match read_search(rest) {
+            Ok(query) => Ok(Request::Search(query)),
+            Err(bad) => Err(bad),
+        },
         None => Err(BadRequest::Verb),
     }
 }
 
 /// What the line, without its LF, asks, or its first bad word.
 #[tactic(auto, unfolding(crate::specs::Grammar::request_in))]
-pub fn read_request(line: &[u8]) -> Result<Request, BadRequest>
-    ensures { result ≡ request_in line.now }
+pub fn read_request(line: &[u8]) -> Result<Request<'_>, BadRequest>
+    ensures asked { MatchResult result
+        (λ request. request_in line.now ≡ Ok (asked_of request))
+        (λ bad. request_in line.now ≡ Err bad) }
+    ensures within { IfOk result (λ request. IsWithinLimits (asked_of request)) }
 {
     if line.len() > LONGEST {
         return Err(BadRequest::Length);
     }
-    if !is_text(line) {
+    let Some(text) = text_of(line) else {
         return Err(BadRequest::Utf8);
-    }
-    let (verb, rest) = split_verb(line);
+    };
+    let (verb, rest) = split_verb(text);
     request_of(read_verb(verb), rest)
 }

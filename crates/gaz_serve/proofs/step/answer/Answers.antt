@@ -4,6 +4,7 @@ use Rattle.gaz_outside.specs.Outside.{ShelfView}
 use Rattle.gaz_num.specs.declared.words.FileName.{FileName}
 use Rattle.gaz_num.specs.Refusal.{request}
 use Rattle.gaz_reply.specs.Reply.{refused}
+use Rattle.gaz_words.specs.Grammar.{asked_of}
 use Rattle.gaz_turns.specs.Turns.{State, opens}
 use Rattle.gaz_turns.proofs.Told.{told_given}
 use Rattle.gaz_serve.specs.Change.{Closes}
@@ -35,11 +36,11 @@ pub returns-in-Ok-told-clause-step : goal.returns-in-Ok-told-clause-step
 returns-in-Ok-told-clause-step g c told shelf_told state mirrors = elim c.match-read_request.branch [
   | in-Ok w ↦ rw (w.shelf-is, w.station-is)
       (subst (λ (s : State). OneStep c.args.line.now s (g.F.Shelf.view c.args.shelf.now) (g.F.Shelf.view w.answer_request-told.new.shelf) (g.T.Station.view c.args.station.now) (g.T.Station.view w.answer_request-told.new.station) well) (state_open c.args.session.now (g.T.Station.view c.args.station.now) state told c.requires.«open» mirrors)
-      (read_ok (state_of c.args.session.now) c.args.line.now w.in-Ok.request (sym c.read_request.ensures ∙ w.in-Ok.is) (g.F.Shelf.view c.args.shelf.now) (g.F.Shelf.view w.answer_request-told.new.shelf) _ _ w.answer_request-told.result (sym w.told-is ∙ c.in-Ok-told.is) w.answer_request-told.ensures.closes
-      (when_told (λ files. Meets files w.in-Ok.request (state_of c.args.session.now) (g.F.Shelf.view c.args.shelf.now) (g.F.Shelf.view w.answer_request-told.new.shelf) (g.T.Station.view c.args.station.now) (g.T.Station.view w.answer_request-told.new.station) w.answer_request-told.result) (g.F.Shelf.view w.answer_request-told.new.shelf)
+      (read_ok (state_of c.args.session.now) c.args.line.now (asked_of w.in-Ok.request) w.in-Ok.ensures.asked (g.F.Shelf.view c.args.shelf.now) (g.F.Shelf.view w.answer_request-told.new.shelf) _ _ w.answer_request-told.result (sym w.told-is ∙ c.in-Ok-told.is) w.answer_request-told.ensures.closes
+      (when_told (λ files. Meets files (asked_of w.in-Ok.request) (state_of c.args.session.now) (g.F.Shelf.view c.args.shelf.now) (g.F.Shelf.view w.answer_request-told.new.shelf) (g.T.Station.view c.args.station.now) (g.T.Station.view w.answer_request-told.new.station) w.answer_request-told.result) (g.F.Shelf.view w.answer_request-told.new.shelf)
       (on_told _ _ (closes_told _ (g.F.Shelf.view c.args.shelf.now) (g.F.Shelf.view w.answer_request-told.new.shelf) w.answer_request-told.ensures.closes) shelf_told) w.answer_request-told.ensures.step)))
   | in-Err w ↦ rw (w.shelf-is, w.station-is)
-      (unread_ok state c.args.line.now w.word.result.now w.in-Err.bad (g.F.Shelf.view c.args.shelf.now) _ _ (sym c.read_request.ensures ∙ w.in-Err.is) w.word.ensures w.write_refusal-told.result (sym w.told-is ∙ c.in-Ok-told.is)
+      (unread_ok state c.args.line.now w.word.result.now w.in-Err.bad (g.F.Shelf.view c.args.shelf.now) _ _ w.in-Err.ensures.asked w.word.ensures w.write_refusal-told.result (sym w.told-is ∙ c.in-Ok-told.is)
       (told_given state (refused (request w.word.result.now)) _ _ w.write_refusal-told.result (λ o told left. g.met.T.Station.only_now c.args.station.now o told left) w.write_refusal-told.ensures.printed w.write_refusal-told.ensures.moments w.write_refusal-told.ensures.areas))
 ]
 
@@ -47,11 +48,11 @@ pub returns-in-Err-told-clause-step : goal.returns-in-Err-told-clause-step
 returns-in-Err-told-clause-step g c told shelf_told state mirrors = elim c.match-read_request.branch [
   | in-Ok w ↦ rw (w.shelf-is, w.station-is)
       (subst (λ (s : State). OneStep c.args.line.now s (g.F.Shelf.view c.args.shelf.now) (g.F.Shelf.view w.answer_request-told.new.shelf) (g.T.Station.view c.args.station.now) (g.T.Station.view w.answer_request-told.new.station) bad) (state_open c.args.session.now (g.T.Station.view c.args.station.now) state told c.requires.«open» mirrors)
-      (read_err (state_of c.args.session.now) c.args.line.now w.in-Ok.request (sym c.read_request.ensures ∙ w.in-Ok.is) (g.F.Shelf.view c.args.shelf.now) (g.F.Shelf.view w.answer_request-told.new.shelf) _ _ w.answer_request-told.result _ _ (sym w.told-is ∙ c.in-Err-told.is) w.answer_request-told.ensures.closes
-      (when_told (λ files. Meets files w.in-Ok.request (state_of c.args.session.now) (g.F.Shelf.view c.args.shelf.now) (g.F.Shelf.view w.answer_request-told.new.shelf) (g.T.Station.view c.args.station.now) (g.T.Station.view w.answer_request-told.new.station) w.answer_request-told.result) (g.F.Shelf.view w.answer_request-told.new.shelf)
+      (read_err (state_of c.args.session.now) c.args.line.now (asked_of w.in-Ok.request) w.in-Ok.ensures.asked (g.F.Shelf.view c.args.shelf.now) (g.F.Shelf.view w.answer_request-told.new.shelf) _ _ w.answer_request-told.result _ _ (sym w.told-is ∙ c.in-Err-told.is) w.answer_request-told.ensures.closes
+      (when_told (λ files. Meets files (asked_of w.in-Ok.request) (state_of c.args.session.now) (g.F.Shelf.view c.args.shelf.now) (g.F.Shelf.view w.answer_request-told.new.shelf) (g.T.Station.view c.args.station.now) (g.T.Station.view w.answer_request-told.new.station) w.answer_request-told.result) (g.F.Shelf.view w.answer_request-told.new.shelf)
       (on_told _ _ (closes_told _ (g.F.Shelf.view c.args.shelf.now) (g.F.Shelf.view w.answer_request-told.new.shelf) w.answer_request-told.ensures.closes) shelf_told) w.answer_request-told.ensures.step)))
   | in-Err w ↦ rw (w.shelf-is, w.station-is)
-      (unread_err state c.args.line.now w.word.result.now w.in-Err.bad (g.F.Shelf.view c.args.shelf.now) _ _ (sym c.read_request.ensures ∙ w.in-Err.is) w.word.ensures w.write_refusal-told.result _ _ (sym w.told-is ∙ c.in-Err-told.is)
+      (unread_err state c.args.line.now w.word.result.now w.in-Err.bad (g.F.Shelf.view c.args.shelf.now) _ _ w.in-Err.ensures.asked w.word.ensures w.write_refusal-told.result _ _ (sym w.told-is ∙ c.in-Err-told.is)
       (told_given state (refused (request w.word.result.now)) _ _ w.write_refusal-told.result (λ o told left. g.met.T.Station.only_now c.args.station.now o told left) w.write_refusal-told.ensures.printed w.write_refusal-told.ensures.moments w.write_refusal-told.ensures.areas))
 ]
 
@@ -75,13 +76,13 @@ returns-in-Err-told-clause-tells g c = elim c.match-read_request.branch [
 
 pub returns-in-Ok-told-clause-closes : goal.returns-in-Ok-told-clause-closes
 returns-in-Ok-told-clause-closes g c = elim c.match-read_request.branch [
-  | in-Ok w ↦ rw (w.shelf-is) (opens (state_of c.args.session.now) (Ok w.in-Ok.request), w.answer_request-told.ensures.closes)
+  | in-Ok w ↦ rw (w.shelf-is) (opens (state_of c.args.session.now) (Ok (asked_of w.in-Ok.request)), w.answer_request-told.ensures.closes)
   | in-Err w ↦ rw (w.shelf-is) (same_shelf (g.F.Shelf.view c.args.shelf.now))
 ]
 
 pub returns-in-Err-told-clause-closes : goal.returns-in-Err-told-clause-closes
 returns-in-Err-told-clause-closes g c = elim c.match-read_request.branch [
-  | in-Ok w ↦ rw (w.shelf-is) (opens (state_of c.args.session.now) (Ok w.in-Ok.request), w.answer_request-told.ensures.closes)
+  | in-Ok w ↦ rw (w.shelf-is) (opens (state_of c.args.session.now) (Ok (asked_of w.in-Ok.request)), w.answer_request-told.ensures.closes)
   | in-Err w ↦ rw (w.shelf-is) (same_shelf (g.F.Shelf.view c.args.shelf.now))
 ]
 

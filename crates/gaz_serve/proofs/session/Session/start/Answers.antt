@@ -1,4 +1,4 @@
-use Rattle.std.proofs.Common.{Bool, IsTrue, sym, subst}
+use Rattle.std.proofs.Common.{Bool, IsTrue, subst}
 use Rattle.gaz_plain.specs.Gazetteer.{Gazetteer}
 use Rattle.gaz_open.specs.Holds.{AllHold}
 use Rattle.gaz_open.proofs.Mirrored.{one_mirror}

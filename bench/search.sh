@@ -1,0 +1,49 @@
+#!/usr/bin/env bash
+# bench/search.sh ROWS: 1,000 searches of each kind over ROWS made rows, each answered in one run of `serve`, and the same from
+# sqlite3 without an index, in one run of this script. The time of opening the mirror is taken off: it is that of a run with one get.
+set -eu
+top=$(cd "$(dirname "$0")/.." && pwd)
+rows=${1:?rows}
+asked=${2:-1000}
+folder=$(cd "$(mktemp -d -p "${BENCH_FOLDER:-.}")" && pwd)
+trap 'rm -rf "$folder"' EXIT
+cd "$folder"
+mawk -v n="$rows" 'BEGIN { for (i = 1; i <= n; i++)
+    printf "%d\tMade place %d\tMade place %d\t\t%.5f\t%.5f\tP\tPPL%s\t%c%c\t\t%02d\t%03d\t\t\t%d\t\t%d\tEurope/Paris\t2024-02-01\n", i, i, i, (i * 7919 % 17990) / 100 - 89.95, (i * 104729 % 35990) / 100 - 179.95, i % 5 ? "" : "A", 65 + i % 26, 65 + int(i / 26) % 26, i % 100, i % 1000, i * 7919 % 1000003, i % 3000 }' > allCountries.txt
+"$top/gaz" scan 1 < /dev/null > /dev/null
+program=$top/crates/gaz_main/out/gaz_main
+echo 'load 2024-03-01' | "$program" serve > /dev/null
+echo 'get 1' > opening.txt
+mawk -v n="$rows" -v q="$asked" 'BEGIN { for (i = 1; i <= q; i++) {
+    id = i * 7919 % n + 1; south = (i * 31 % 170) - 85; west = (i * 57 % 350) - 175
+    print "search name_equals=made PLACE " id > "equals.txt"
+    print "search name_startsWith=made place " id "\tmaxRows=10" > "starts.txt"
+    printf "search north=%d\tsouth=%d\teast=%d\twest=%d\tmaxRows=10\n", south + 1, south, west + 1, west > "box.txt"
+    printf "search country=%c%c\tfeatureCode=PPLA\tmaxRows=10\n", 65 + i % 26, 65 + int(i / 26) % 26 > "code.txt"
+    printf "SELECT id FROM rows WHERE lower(name) = \"made place %d\" OR lower(ascii) = \"made place %d\" ORDER BY population DESC, id LIMIT 100;\n", id, id > "equals.sql"
+    printf "SELECT id FROM rows WHERE substr(lower(name), 1, %d) = \"made place %d\" OR substr(lower(ascii), 1, %d) = \"made place %d\" ORDER BY population DESC, id LIMIT 10;\n", length("made place " id), id, length("made place " id), id > "starts.sql"
+    printf "SELECT id FROM rows WHERE latitude BETWEEN %d AND %d AND longitude BETWEEN %d AND %d ORDER BY population DESC, id LIMIT 10;\n", south, south + 1, west, west + 1 > "box.sql"
+    printf "SELECT id FROM rows WHERE country = \047%c%c\047 AND code = \047PPLA\047 ORDER BY population DESC, id LIMIT 10;\n", 65 + i % 26, 65 + int(i / 26) % 26 > "code.sql"
+} }'
+
+measure() { # NAME INPUT COMMAND..
+    local name=$1 input=$2
+    shift 2
+    /usr/bin/time -f '%e %M' -o time "$@" < "$input" > "$name.out"
+    read -r seconds memory < time
+    mawk -v s="$seconds" -v m="$memory" -v n="$name" -v q="$asked" -v r="$rows" -v o="${opening:-0}" 'BEGIN { printf "%-16s %.2f s  %.0f MB peak  %.3f microseconds a row\n", n, s, m / 1024, (s - o) * 1000000 / q / r }'
+}
+measure opening opening.txt "$program" serve
+opening=$seconds
+have_sqlite=
+if command -v sqlite3 > /dev/null; then
+    have_sqlite=yes
+    printf '.mode ascii\n.separator "\\t" "\\n"\nCREATE TABLE rows (id INTEGER, name TEXT, ascii TEXT, other TEXT, latitude REAL, longitude REAL, class TEXT, code TEXT, country TEXT, cc2 TEXT, a1 TEXT, a2 TEXT, a3 TEXT, a4 TEXT, population INTEGER, elevation TEXT, dem TEXT, zone TEXT, day TEXT);\n.import allCountries.txt rows\n' | sqlite3 rows.db
+fi
+for kind in equals starts box code; do
+    measure "serve_$kind" "$kind.txt" "$program" serve
+    if [ -n "$have_sqlite" ]; then
+        opening=0 measure "sqlite3_$kind" "$kind.sql" sqlite3 rows.db
+        grep -v '^ok' "serve_$kind.out" | cut -f1 | cmp - "sqlite3_$kind.out" && echo "same ids"
+    fi
+done
