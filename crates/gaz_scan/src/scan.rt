@@ -137,10 +137,7 @@ impl Scan {
     }
 
     /// The next pair, or None where all of the range were given. The pages have to be those over which the scan was begun.
-    pub fn next<P: Pages>(
-        &mut self,
-        pages: &mut P,
-    ) -> Result<Option<([u8; 32], u64)>, PageFault>
+    pub fn next<P: Pages>(&mut self, pages: &mut P) -> Result<Option<([u8; 32], u64)>, PageFault>
         ensures gives { IsTrue (P.view pages.old).is_told → (left : List Pair) → Comes (P.view pages.old).page self.old left
             → Gives (P.view pages.old).page (P.view pages.new).page self.new left result }
         ensures tree { tree_of self.new ≡ tree_of self.old }
