@@ -7,7 +7,7 @@ use Rattle.gaz_page.specs.Pages.{PagesView, SamePages, Takes, with_page}
 use Rattle.gaz_page.proofs.PageMaps.{with_other}
 use Rattle.gaz_leaf.specs.declared.kind.Kind.{Kind}
 use Rattle.gaz_leaf.specs.Node.{IsForm}
-use Rattle.gaz_page.specs.Chains.{Among, IsTakenSince}
+use Rattle.gaz_page.specs.Chains.{Among}
 use Rattle.gaz_tree.specs.Put.{first_of, IsChain, HasChain, IsFree, Trades}
 use Rattle.gaz_tree.proofs.Changed.{form_not_free, takes_change}
 use Rattle.gaz_tree.proofs.Chains.{In, chain_stays, same_link, once, on_chain, taken}

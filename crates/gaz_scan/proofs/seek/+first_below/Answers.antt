@@ -1,7 +1,6 @@
 use Rattle.std.proofs.Common.{◌≡◌, ℕ, ◌+◌, ◌-◌, suc, sym, subst, arith}
 use Rattle.std.specs.Prelude.{IsTrue}
-use Rattle.gaz_tree.specs.Tree.{children_of, tree_pairs}
-use Rattle.gaz_scan.proofs.Finds.{first_answered, first_failed}
+use Rattle.gaz_scan.proofs.Finds.{first_answered}
 use Rattle.gaz_scan.proofs.Places.{names_failed}
 use Rattle.gaz_scan.proofs.seek.+first_below.Goals as goal
 

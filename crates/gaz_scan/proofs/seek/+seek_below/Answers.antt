@@ -1,8 +1,7 @@
-use Rattle.std.proofs.Common.{◌≡◌, ◌+◌, ◌-◌, suc, sym, subst, ap, ◌∙◌, arith}
+use Rattle.std.proofs.Common.{◌≡◌, ◌+◌, ◌-◌, suc, sym, subst, ◌∙◌, arith}
 use Rattle.std.specs.Prelude.{IsTrue, Bool}
 use Rattle.gaz_scan.specs.declared.turn.Turn.{Turn}
 use Rattle.gaz_leaf.specs.Node.{key_in}
-use Rattle.gaz_tree.specs.Tree.{children_of, tree_pairs}
 use Rattle.gaz_scan.proofs.Places.{names_failed}
 use Rattle.gaz_scan.proofs.Finds.{turned, found_here, found_next, here_failed}
 use Rattle.gaz_scan.proofs.seek.+seek_below.Goals as goal

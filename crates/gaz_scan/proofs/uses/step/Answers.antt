@@ -1,4 +1,4 @@
-use Rattle.std.proofs.Common.{◌≡◌, true, false, sym, subst, ◌∙◌}
+use Rattle.std.proofs.Common.{sym, subst}
 use Rattle.std.specs.Prelude.{IsTrue}
 use Rattle.gaz_scan.proofs.Callers.{none_came, one_came}
 use Rattle.gaz_scan.proofs.uses.step.Goals as goal

@@ -1,4 +1,4 @@
-use Rattle.std.proofs.Common.{◌≡◌, ◌<◌, ◌^◌, None, refl, subst, arith}
+use Rattle.std.proofs.Common.{◌<◌, None, refl, subst, arith}
 use Rattle.std.specs.Prelude.{Ok, Bool}
 use Rattle.gaz_leaf.specs.Node.{key_in, count_of}
 use Rattle.gaz_scan.specs.Seek.{Copies}

@@ -1,0 +1,157 @@
+//! Damaged pages: each is told by its number.
+use crate::pattern::{buffer, id_key};
+use crate::records::put_made;
+use crate::stopped::{Stopped, check, must, printed};
+use gaz_heap::{drop_record, get};
+use gaz_page::{MemPages, PAGE, PageFault, Pages};
+use gaz_tree::Tree;
+use std::alloc::Global;
+use std::io::Print;
+
+/// Whether an answer is damage of this page.
+fn names<T: Drop>(given: Result<T, PageFault>, page: u32) -> bool {
+    match given {
+        Err(PageFault::Damaged(named)) => named == page,
+        _ => false,
+    }
+}
+
+/// An overflow page that is full.
+fn overflow(number: u32, next: u32) -> [u8; PAGE] {
+    let mut page = [7; PAGE];
+    page[..16].copy_from_slice(&[0; 16]);
+    page[0] = 4;
+    page[2] = 15;
+    page[3] = 240;
+    page[4..8].copy_from_slice(&number.to_be_bytes());
+    page[8..12].copy_from_slice(&next.to_be_bytes());
+    page
+}
+
+/// An inner page with another first child.
+fn with_first_child(page: [u8; PAGE], child: u32) -> [u8; PAGE] {
+    let mut changed = page;
+    changed[48..52].copy_from_slice(&child.to_be_bytes());
+    changed
+}
+
+/// Records of damaged pages.
+pub fn pages(rt: &impl Print, alloc: Global) -> Result<(), Stopped> {
+    let mut pages = MemPages::new(Vec::new(alloc));
+    let mut current = 0;
+    let mut buf = buffer(alloc)?;
+    let short = put_made(&mut pages, &mut current, 1, 100, &mut buf)?;
+    let long = put_made(&mut pages, &mut current, 2, 9000, &mut buf)?;
+    check(short == 65536, "the first record's place")?;
+    check(long % 65536 == 65535, "the long record's place")?;
+    check(buf.len() == 65535, "a buffer")?;
+    if buf.len() < 65535 {
+        return Err(Stopped::Memory);
+    }
+    check(
+        names(get(&mut pages, 65536 + 1, &mut buf), 1),
+        "a slot that isn't there",
+    )?;
+    check(
+        names(get(&mut pages, 65536 + 65000, &mut buf), 1),
+        "a slot past the page",
+    )?;
+    check(
+        names(get(&mut pages, 1 << 48, &mut buf), 0),
+        "a place past all pages",
+    )?;
+    check(
+        names(drop_record(&mut pages, &mut current, 65536 + 1), 1),
+        "a drop of no slot",
+    )?;
+    check(
+        names(drop_record(&mut pages, &mut current, 1 << 48), 0),
+        "a drop past all pages",
+    )?;
+
+    must(pages.write(1, &[0; PAGE]))?;
+    check(
+        names(get(&mut pages, short, &mut buf), 1),
+        "a page of another kind",
+    )?;
+    check(
+        names(drop_record(&mut pages, &mut current, short), 1),
+        "a drop from a page of another kind",
+    )?;
+    let put_there = put_made(&mut pages, &mut current, 3, 10, &mut buf);
+    check(
+        match put_there {
+            Err(Stopped::Pages(PageFault::Damaged(page))) => page == 1,
+            _ => false,
+        },
+        "a put into a page of another kind",
+    )?;
+    check(current == 1, "the page for new records after an error")?;
+
+    // The long record has three pages, the last one put first: 4 leads to 3, and 3 to 2.
+    must(pages.write(2, &[0; PAGE]))?;
+    check(
+        names(get(&mut pages, long, &mut buf), 2),
+        "a chain that ends early",
+    )?;
+    must(pages.write(2, &overflow(2, 4)))?;
+    // Sixteen pages have 65,280 bytes, and the next one, 3, would make it too long.
+    check(
+        names(get(&mut pages, long, &mut buf), 3),
+        "a chain that goes in a circle",
+    )?;
+    check(
+        names(drop_record(&mut pages, &mut current, long), 4),
+        "a drop of a chain that goes in a circle",
+    )?;
+    printed(println!(rt; "damaged records: 11 told by their pages"))
+}
+
+/// Trees of damaged pages.
+pub fn trees(rt: &impl Print, alloc: Global) -> Result<(), Stopped> {
+    let mut pages = MemPages::new(Vec::new(alloc));
+    let mut tree = must(Tree::empty(&mut pages))?;
+    for id in 0..103 {
+        must(tree.put(&mut pages, &id_key(id), 7))?;
+    }
+    check(tree.height == 2, "a tree of 103 keys")?;
+    let before = tree;
+    let mut top = [0; PAGE];
+    match pages.read(tree.top) {
+        Ok(bytes) => top.copy_from_slice(bytes),
+        Err(fault) => return Err(Stopped::Pages(fault)),
+    }
+    // The topmost page leads back to itself, where a leaf is looked for.
+    must(pages.write(tree.top, &with_first_child(top, tree.top)))?;
+    check(
+        names(tree.get(&mut pages, &id_key(0)), before.top),
+        "a child that leads back up",
+    )?;
+
+    // A count above what a page has room for.
+    let mut many = top;
+    many[3] = 114;
+    must(pages.write(tree.top, &many))?;
+    check(
+        names(tree.get(&mut pages, &id_key(0)), before.top),
+        "a wrong count",
+    )?;
+    check(
+        names(tree.put(&mut pages, &id_key(0), 8), before.top),
+        "a put below a wrong count",
+    )?;
+    check(
+        names(tree.remove(&mut pages, &id_key(0)), before.top),
+        "a removal below a wrong count",
+    )?;
+    check(tree == before, "the tree after an error")?;
+    let low = Tree {
+        top: tree.top,
+        height: 0,
+    };
+    check(
+        names(low.get(&mut pages, &id_key(0)), tree.top),
+        "a tree of no height",
+    )?;
+    printed(println!(rt; "damaged trees: 5 told by their pages"))
+}
