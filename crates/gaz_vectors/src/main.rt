@@ -4,10 +4,12 @@
 //! on it.
 #![tactic(auto)]
 
+mod boxes;
 mod lines;
 mod numbers;
 mod replies;
 
+use boxes::{tell_band, tell_box};
 use lines::{tell_delete, tell_field, tell_request, tell_row};
 use numbers::{tell_date, tell_degrees, tell_signed, tell_unsigned};
 use replies::tell_reply;
@@ -25,6 +27,8 @@ fn tell(rt: &HostRuntime, word: &str, text: &str) -> io::Result<()> {
         "delete" => tell_delete(rt, text.as_bytes()),
         "request" => tell_request(rt, text.as_bytes()),
         "reply" => tell_reply(rt, text),
+        "band" => tell_band(rt, text),
+        "box" => tell_box(rt, text),
         _ => println!(rt; "another word"),
     }
 }
