@@ -5,8 +5,6 @@
 
 mod geo_box;
 mod laws;
-#[cfg(test)]
-mod tests;
 
 pub use geo_box::GeoBox;
 pub use laws::{bands_cover, index_finds, spans_cover};
