@@ -29,7 +29,7 @@ mawk -v n="$rows" -v q="$asked" 'BEGIN { for (i = 1; i <= q; i++) {
 measure() { # NAME INPUT COMMAND..
     local name=$1 input=$2
     shift 2
-    /usr/bin/time -f '%e %M' -o time "$@" < "$input" > "$name.out"
+    /usr/bin/time -f '%U %M' -o time "$@" < "$input" > "$name.out"
     read -r seconds memory < time
     mawk -v s="$seconds" -v m="$memory" -v n="$name" -v q="$asked" -v r="$rows" -v o="${opening:-0}" 'BEGIN { printf "%-16s %.2f s  %.0f MB peak  %.3f microseconds a row\n", n, s, m / 1024, (s - o) * 1000000 / q / r }'
 }

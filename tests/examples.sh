@@ -12,6 +12,7 @@ check scan_of_three_places "$("$program" scan 2 < "$top/examples/three_places.tx
 cp "$top"/examples/first_day/* "$folder" && cd "$folder" || exit 1
 check the_first_day "$("$program" serve < requests.txt)" "$(session '$gaz serve < requests.txt')"
 check the_next_run "$("$program" serve <<< 'get 104')" "$(session "\$gaz serve <<< 'get 104'")"
+check a_search "$("$program" serve <<< 'search name_equals=ÉVERMORE')" "$(session "\$gaz serve <<< 'search name_equals=ÉVERMORE'")"
 check examples_stay_clean "$(cd "$top/examples" && find . -name 'mirror.*')" ''
 
 finish
