@@ -1,6 +1,7 @@
 #!/usr/bin/env bash
-# bench/search.sh ROWS: 1,000 searches of each kind over ROWS made rows, each answered in one run of `serve`, and the same from
-# sqlite3 without an index, in one run of this script. The time of opening the mirror is taken off: it is that of a run with one get.
+# bench/search.sh ROWS [SEARCHES]: 1,000 searches of each kind, or so many, over ROWS made rows, each kind in one run of `serve`, and
+# the same from sqlite3 without an index, in one run of this script. Times are those of the processor, without that of opening the
+# mirror, which is the time of a run with one get.
 set -eu
 top=$(cd "$(dirname "$0")/.." && pwd)
 rows=${1:?rows}
@@ -10,8 +11,8 @@ trap 'rm -rf "$folder"' EXIT
 cd "$folder"
 mawk -v n="$rows" 'BEGIN { for (i = 1; i <= n; i++)
     printf "%d\tMade place %d\tMade place %d\t\t%.5f\t%.5f\tP\tPPL%s\t%c%c\t\t%02d\t%03d\t\t\t%d\t\t%d\tEurope/Paris\t2024-02-01\n", i, i, i, (i * 7919 % 17990) / 100 - 89.95, (i * 104729 % 35990) / 100 - 179.95, i % 5 ? "" : "A", 65 + i % 26, 65 + int(i / 26) % 26, i % 100, i % 1000, i * 7919 % 1000003, i % 3000 }' > allCountries.txt
-"$top/gaz" scan 1 < /dev/null > /dev/null
 program=$top/crates/gaz_main/out/gaz_main
+[ -x "$program" ] || { echo "the program isn't built: run ./gaz prove"; exit 1; }
 echo 'load 2024-03-01' | "$program" serve > /dev/null
 echo 'get 1' > opening.txt
 mawk -v n="$rows" -v q="$asked" 'BEGIN { for (i = 1; i <= q; i++) {

@@ -11,3 +11,4 @@ pub mod Taken
 pub mod TextTests
 pub mod Grown
 pub mod Wanting
+pub mod Selected

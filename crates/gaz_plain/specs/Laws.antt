@@ -1,11 +1,14 @@
 -- What holds of every step, fold, load and day.
-use Rattle.std.specs.Prelude.{◌≡◌, ℕ, ◌<◌, true, false, List, ◌++◌, length, sum_by, Option, Some, None, IsSome, Ok, Err, IfOk}
+use Rattle.std.specs.Prelude.{◌≡◌, ℕ, ◌<◌, true, false, List, ◌++◌, length, map, sum_by, Option, Some, None, IsSome, Ok, Err, IfOk}
 use Rattle.gaz_num.specs.declared.words.Kind.{Kind}
 use Rattle.gaz_num.specs.declared.words.Table.{Table}
 use Rattle.gaz_num.specs.Check.{key_in}
 use Rattle.gaz_num.specs.Pieces.{lines_within}
 use Rattle.gaz_num.specs.Refusal.{sequence, ◌>>=◌}
 use Rattle.gaz_plain.specs.Gazetteer.{Gazetteer, IsGazetteer, table_of, is_delete, line_with, step}
+use Rattle.gaz_pick.specs.Asked.{Asked}
+use Rattle.gaz_pick.specs.Match.{pair_of}
+use Rattle.gaz_plain.specs.Search.{answer_pairs, search_of}
 use Rattle.gaz_plain.specs.Fold.{File, fold, part}
 use Rattle.gaz_plain.specs.Load.{Files, load, day}
 
@@ -60,3 +63,7 @@ PartIsFold = (gaz : Gazetteer) (files : List File) (n : ℕ) → line_count file
 -- To fold files behind others is to fold those first and then these.
 abbrev pub FoldsAppend : Type 0
 FoldsAppend = (gaz : Gazetteer) (files more : List File) → fold gaz (files ++ more) ≡ (fold gaz files >>= λ new. fold new more)
+
+-- The answer to a search has a row for each of its pairs, with that population and that id: none is lost between pairs and rows.
+abbrev pub AnswersHaveRows : Type 0
+AnswersHaveRows = (gaz : Gazetteer) (asked : Asked) → IsGazetteer gaz → map pair_of (search_of gaz asked) ≡ answer_pairs gaz asked

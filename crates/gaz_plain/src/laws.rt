@@ -1,5 +1,5 @@
 //! What holds of every step, fold, load and day. To call one of these is to know it; none does anything.
-ghost use Rattle.gaz_plain.specs.Laws.{FoldKeeps, PartKeeps, LoadGives, DayGives, DayTwice, StepLeavesOthers, StepPuts, StepTakesOut, PartIsFold, FoldsAppend};
+ghost use Rattle.gaz_plain.specs.Laws.{FoldKeeps, PartKeeps, LoadGives, DayGives, DayTwice, StepLeavesOthers, StepPuts, StepTakesOut, PartIsFold, FoldsAppend, AnswersHaveRows};
 
 /// What a fold, a part of one, a load and a day make is a gazetteer with the date that they were for.
 pub fn keeps_gazetteers()
@@ -29,4 +29,9 @@ pub fn part_is_fold()
 /// Files can be folded one after another.
 pub fn folds_append()
     ensures { FoldsAppend }
+{}
+
+/// The pairs of an answer are those of its rows, in order: no row is lost.
+pub fn answers_have_rows()
+    ensures { AnswersHaveRows }
 {}

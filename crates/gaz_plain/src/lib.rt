@@ -13,5 +13,7 @@ mod row_list;
 mod wanted;
 
 pub use delete::check_delete;
-pub use laws::{day_twice, folds_append, keeps_gazetteers, part_is_fold, steps_by_key};
+pub use laws::{
+    answers_have_rows, day_twice, folds_append, keeps_gazetteers, part_is_fold, steps_by_key,
+};
 pub use plain_gaz::{PlainFault, PlainGaz};
