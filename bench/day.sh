@@ -14,7 +14,7 @@ done
 folder=$(cd "$(mktemp -d -p "${BENCH_FOLDER:-.}")" && pwd)
 trap 'rm -rf "$folder"' EXIT
 cd "$folder"
-"$top/gaz" scan 1 < /dev/null > /dev/null
+"$top/gaz" prove
 program=$top/crates/gaz_main/out/gaz_main
 
 # made FROM STEP COUNT NAME: rows with rising ids.

@@ -15,7 +15,7 @@ mawk -v n="$rows" -v g="$gets" 'BEGIN { for (i = 0; i < g; i++) print "get " (i 
 { echo 'load 2024-03-01'; cat gets.txt; } > requests.txt
 echo 'load 2024-03-01' > load.txt
 sed 's/get \(.*\)/SELECT line FROM rows WHERE id = \1;/' gets.txt > gets.sql
-"$top/gaz" scan 1 < /dev/null > /dev/null
+"$top/gaz" prove
 program=$top/crates/gaz_main/out/gaz_main
 
 measure() { # NAME INPUT COMMAND..
