@@ -1,4 +1,7 @@
 //! Boxes and their bands.
+ghost use Rattle.std.specs.Option.{ForSome};
+ghost use Rattle.gaz_box.specs.Edges.{IsWithin};
+
 use gaz_box::GeoBox;
 use gaz_num::read_degrees;
 use std::io;
@@ -14,23 +17,50 @@ pub(crate) fn tell_band(rt: &HostRuntime, text: &str) -> io::Result<()> {
     }
 }
 
-/// The box with the edges of this text: north, south, east and west, between spaces. None where one of them is none, or the
-/// south lies north of the north.
-fn box_of(text: &str) -> Option<GeoBox> {
+/// The edges of a box, north, south, east and west: coordinates between spaces.
+#[derive(Drop)]
+struct Edges<'a> {
+    north: &'a str,
+    south: &'a str,
+    east: &'a str,
+    west: &'a str,
+}
+
+/// The edges that stand in this text.
+fn edges_in(text: &str) -> Option<Edges<'_>> {
     let (north, rest) = text.split_once(' ')?;
     let (south, rest) = rest.split_once(' ')?;
     let (east, west) = rest.split_once(' ')?;
-    GeoBox::new(
-        read_degrees(north.as_bytes(), 90)?,
-        read_degrees(south.as_bytes(), 90)?,
-        read_degrees(east.as_bytes(), 180)?,
-        read_degrees(west.as_bytes(), 180)?,
-    )
+    Some(Edges {
+        north,
+        south,
+        east,
+        west,
+    })
+}
+
+/// The coordinate that stands in the text.
+fn edge(text: &str, greatest: u8) -> Option<i64>
+    ensures { ForSome result (IsWithin greatest) }
+{
+    read_degrees(text.as_bytes(), greatest)
+}
+
+/// The box with these edges. None where one of them is none, or the south lies north of the north.
+fn box_of(edges: &Edges<'_>) -> Option<GeoBox> {
+    let (north, south) = (edge(edges.north, 90), edge(edges.south, 90));
+    match (north, south, edge(edges.east, 180), edge(edges.west, 180)) {
+        (Some(north), Some(south), Some(east), Some(west)) => GeoBox::new(north, south, east, west),
+        _ => None,
+    }
 }
 
 /// The bands and the ranges of longitudes of a box.
 pub(crate) fn tell_box(rt: &HostRuntime, text: &str) -> io::Result<()> {
-    let Some(edges) = box_of(text) else {
+    let Some(given) = edges_in(text) else {
+        return println!(rt; "no edges");
+    };
+    let Some(edges) = box_of(&given) else {
         return println!(rt; "none");
     };
     let (first, last) = edges.bands();

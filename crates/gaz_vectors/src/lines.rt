@@ -66,7 +66,7 @@ pub(crate) fn tell_delete(rt: &HostRuntime, line: &[u8]) -> io::Result<()> {
 }
 
 /// What the request asks, with the number of its date.
-fn print_request(rt: &HostRuntime, request: Request<'_>) -> io::Result<()> {
+fn print_request(rt: &HostRuntime, request: &Request<'_>) -> io::Result<()> {
     match request {
         Request::Load(day) => {
             let number = day.number();
@@ -87,7 +87,7 @@ fn print_request(rt: &HostRuntime, request: Request<'_>) -> io::Result<()> {
 /// A request, or its first bad word.
 pub(crate) fn tell_request(rt: &HostRuntime, line: &[u8]) -> io::Result<()> {
     match read_request(line) {
-        Ok(request) => print_request(rt, request),
+        Ok(request) => print_request(rt, &request),
         Err(bad) => {
             let word = bad.word();
             println!(rt; "refused {word}")
