@@ -25,7 +25,7 @@ pub struct GeoBox {
 
 impl GeoBox {
     ghost use Rattle.std.specs.Prelude.{◌≡◌, ◌≤◌, ◌≤ℤ◌, ◌↔◌, IsSome, IfSome};
-    ghost use Rattle.gaz_box.specs.Edges.{IsWithin, wraps, in_box, band_of, spans_of};
+    ghost use Rattle.gaz_box.specs.Edges.{IsWithin, wraps, has_latitude, has_longitude, in_box, band_of, spans_of};
     ghost use Rattle.gaz_box.specs.View.{edges_of};
 
     /// The box with these edges, or none where its south lies north of its north.
@@ -55,17 +55,28 @@ impl GeoBox {
         self.east < self.west
     }
 
-    /// Whether the place lies in the box or on one of its edges.
-    pub fn contains(&self, latitude: i64, longitude: i64) -> bool
-        ensures { result ≡ in_box (edges_of self.now) latitude longitude }
+    /// Whether the latitude lies between south and north.
+    pub fn has_latitude(&self, latitude: i64) -> bool
+        ensures { result ≡ has_latitude (edges_of self.now) latitude }
     {
-        if latitude < self.south || latitude > self.north {
-            return false;
-        }
+        self.south <= latitude && latitude <= self.north
+    }
+
+    /// Whether the longitude lies between west and east, or, where the box goes over the antimeridian, beyond one of them.
+    pub fn has_longitude(&self, longitude: i64) -> bool
+        ensures { result ≡ has_longitude (edges_of self.now) longitude }
+    {
         if self.wraps() {
             return longitude >= self.west || longitude <= self.east;
         }
         longitude >= self.west && longitude <= self.east
+    }
+
+    /// Whether the place lies in the box or on one of its edges.
+    pub fn contains(&self, latitude: i64, longitude: i64) -> bool
+        ensures { result ≡ in_box (edges_of self.now) latitude longitude }
+    {
+        self.has_latitude(latitude) && self.has_longitude(longitude)
     }
 
     /// The number of the band of a latitude: the whole quarter degrees from the south pole up to it.
