@@ -1,0 +1,4 @@
+pub mod Asked
+pub mod Divisions
+pub mod Examples
+pub mod Reading

@@ -1,0 +1,3 @@
+pub mod Parent
+pub mod Questions
+pub mod Chain
