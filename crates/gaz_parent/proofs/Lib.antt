@@ -1,4 +1,5 @@
 pub mod Asked
+pub mod Codes
 pub mod Divisions
 pub mod Examples
 pub mod Reading

@@ -74,9 +74,13 @@ is_link class child parent link =
 abbrev pub linked : Lists → ℕ → LinkClass → Option ℕ
 linked lists child class = least_other lists child (λ other. list_any (is_link class child (id_of other)) lists.links)
 
--- the columns of the country and of the admin codes 1 to a level
+-- the columns of the admin codes 1 to a level
+abbrev pub code_columns : ℕ → List ℕ
+code_columns level = take level (11 ∷ 12 ∷ 13 ∷ 14 ∷ [])
+
+-- the path to a level: the columns of the country and of the admin codes up to it
 abbrev pub path_columns : ℕ → List ℕ
-path_columns level = 9 ∷ take level (11 ∷ 12 ∷ 13 ∷ 14 ∷ [])
+path_columns level = 9 ∷ code_columns level
 
 -- none of them is empty, and code 1 isn't 00
 abbrev pub has_path : ℕ → List ℕ → Bool
@@ -87,12 +91,13 @@ has_path level row =
 abbrev pub same_path : ℕ → List ℕ → List ℕ → Bool
 same_path level row other = list_all (λ n. bytes_eq (column n other) (column n row)) (path_columns level)
 
--- Rule 2 at one level: the least id of a row of this level with the same country and the same admin codes up to it.
+-- another row is of this level, and has the same country and the same admin codes up to it
+abbrev pub is_division_of : ℕ → List ℕ → List ℕ → Bool
+is_division_of level row other = is_this level (level_of other) && same_path level row other
+
+-- Rule 2 at one level: the least id of such a row, where the path isn't empty anywhere.
 abbrev pub division : Lists → ℕ → List ℕ → Option ℕ
-division lists level row =
-    if has_path level row
-    then least_other lists (id_of row) (λ other. is_this level (level_of other) && same_path level row other)
-    else None
+division lists level row = if has_path level row then least_other lists (id_of row) (is_division_of level row) else None
 
 -- the first level: that of the row less one, 0 for a country row, and 4 for all other rows
 abbrev pub first_level : List ℕ → ℕ
@@ -115,15 +120,20 @@ names country id line = bytes_eq (column 1 line) country && is_this id (id_in (c
 abbrev pub is_country_of : List ℕ → List ℕ → Bool
 is_country_of country other = is_country_row other && bytes_eq (column 9 other) country
 
--- Rule 3, of a row that is no country row and whose country isn't empty: the row that the table of countries names for the
--- country, else the least id of a country row with that country.
+-- a row that is no country row and whose country isn't empty
+abbrev pub has_country : List ℕ → Bool
+has_country row = not (is_country_row row) && not (is_empty (column 9 row))
+
+-- Rule 3, of such a row: the row that the table of countries names for its country, else the least id of a country row with
+-- that country.
 abbrev pub country_above : Lists → List ℕ → Option ℕ
 country_above lists row =
-    if is_country_row row || is_empty (column 9 row) then None
-    else first_some
+    if has_country row
+    then first_some
     (least_other lists (id_of row) (λ other. list_any (names (column 9 row) (id_of other)) lists.countries)
     ∷ least_other lists (id_of row) (is_country_of (column 9 row))
     ∷ [])
+    else None
 
 -- The parent of a row: the first that exists of the four rules.
 abbrev pub parent_of : Lists → List ℕ → Option ℕ

@@ -5,10 +5,12 @@
 //! Nothing here takes memory.
 #![tactic(auto)]
 
+mod candidate;
 mod entity;
 mod kin;
 mod rule;
 
+pub use candidate::{leads_to_country, leads_to_division, may_be_country, may_be_division};
 pub use entity::{is_country, level};
 pub use kin::Kin;
 pub use rule::parent;
