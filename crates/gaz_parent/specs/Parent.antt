@@ -32,9 +32,13 @@ abbrev pub least : List ℕ → Option ℕ
 least [] = None
 least (n ∷ more) = Some (unwrap_or (option_map (min n) (least more)) n)
 
--- the least id of a row that passes a test, where this one id is never taken
+-- a row may be taken that passes a test and hasn't this id
+abbrev pub may_be : ℕ → (List ℕ → Bool) → List ℕ → Bool
+may_be id test row = test row && not (id_of row == id)
+
+-- the least id of a row that passes a test, where the row with this id is never taken
 abbrev pub least_other : Lists → ℕ → (List ℕ → Bool) → Option ℕ
-least_other lists id test = least (filter (λ n. not (n == id)) (map id_of (filter test lists.rows)))
+least_other lists id test = least (map id_of (filter (may_be id test) lists.rows))
 
 -- a row of class A
 abbrev pub is_administrative : List ℕ → Bool
@@ -71,7 +75,7 @@ is_link class child parent link =
     && is_this parent (id_in (column 1 link))
 
 -- Rules 1 and 4: the least id of a row that is parent of this child in a link of this class.
-abbrev pub linked : Lists → ℕ → LinkClass → Option ℕ
+unfoldable pub linked : Lists → ℕ → LinkClass → Option ℕ
 linked lists child class = least_other lists child (λ other. list_any (is_link class child (id_of other)) lists.links)
 
 -- the columns of the admin codes 1 to a level
@@ -96,7 +100,7 @@ abbrev pub is_division_of : ℕ → List ℕ → List ℕ → Bool
 is_division_of level row other = is_this level (level_of other) && same_path level row other
 
 -- Rule 2 at one level: the least id of such a row, where the path isn't empty anywhere.
-abbrev pub division : Lists → ℕ → List ℕ → Option ℕ
+unfoldable pub division : Lists → ℕ → List ℕ → Option ℕ
 division lists level row = if has_path level row then least_other lists (id_of row) (is_division_of level row) else None
 
 -- the first level: that of the row less one, 0 for a country row, and 4 for all other rows
@@ -126,7 +130,7 @@ has_country row = not (is_country_row row) && not (is_empty (column 9 row))
 
 -- Rule 3, of such a row: the row that the table of countries names for its country, else the least id of a country row with
 -- that country.
-abbrev pub country_above : Lists → List ℕ → Option ℕ
+unfoldable pub country_above : Lists → List ℕ → Option ℕ
 country_above lists row =
     if has_country row
     then first_some
