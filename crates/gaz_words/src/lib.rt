@@ -1,8 +1,9 @@
 //! The request language: `read_request` answers what a request line asks, or the first bad word of it.
-//! Both are exactly those of the grammar in specs/, Grammar.antt and, for a search, Search.antt. A verb whose request isn't built yet is an unknown verb.
+//! Both are exactly those of the grammar in specs/, Grammar.antt and, for a search and for children, Search.antt and Children.antt. A verb whose request isn't built yet is an unknown verb.
 //! No call takes memory.
 #![tactic(auto)]
 
+mod children;
 mod parameter;
 mod request;
 mod search;

@@ -3,8 +3,10 @@ ghost use Rattle.std.specs.Prelude.{◌≡◌, true, false, option_copied, optio
 ghost use Rattle.std.specs.Str.{is_utf8};
 ghost use Rattle.gaz_num.specs.Dates.{day_in};
 ghost use Rattle.gaz_num.specs.Numbers.{id_in};
-ghost use Rattle.gaz_words.specs.Grammar.{asked_of, IsWithinLimits, bad_word, verb_of, rest_of, verb_in, request_by, request_in};
+ghost use Rattle.gaz_words.specs.Grammar.{asked_of, IsWithinLimits, bad_word, verb_in, code_in, request_by, request_in};
+ghost use Rattle.gaz_words.specs.Spaces.{before_space, behind_space};
 
+use crate::children::read_children;
 use crate::parameter::Parameter;
 use crate::search::read_search;
 use gaz_num::{Day, read_date, read_id};
@@ -13,6 +15,9 @@ use std::str::from_utf8;
 
 /// Bytes in the longest request line.
 const LONGEST: usize = 4096;
+
+/// Bytes in the longest admin code.
+const LONGEST_CODE: usize = 128;
 
 /// What a request line asks.
 #[derive(Clone, Copy, Debug)]
@@ -25,6 +30,12 @@ pub enum Request<'a> {
     Get(u32),
     /// Tell the first places of those that pass the tests of the query.
     Search(Query<'a>),
+    /// Tell the first children of the place with this id, so many at most.
+    Children(u32, u32),
+    /// Tell the chain of the place with this id.
+    Hierarchy(u32),
+    /// Tell the line of this admin code.
+    Admin(&'a str),
 }
 
 /// The first word of a request line.
@@ -34,6 +45,9 @@ enum Verb {
     Day,
     Get,
     Search,
+    Children,
+    Hierarchy,
+    Admin,
 }
 
 /// The first bad word of a request line.
@@ -47,9 +61,12 @@ pub enum BadRequest {
     Verb,
     /// What stands behind the verb is no date.
     Date,
-    /// What stands behind the verb is no id.
+    /// What stands behind the verb is no id, or doesn't begin with one.
     Id,
-    /// What stands between two tabs has no `=` behind the name of a parameter.
+    /// What stands behind the verb is no code of 1 to 128 bytes.
+    Code,
+    /// What stands between two tabs has no `=` behind the name of a parameter, or what stands behind an id isn't `maxRows=`
+    /// and a value.
     Parameter,
     /// The parameter was given before, or its value is bad, or it is a second name test.
     Value(Parameter),
@@ -68,6 +85,7 @@ impl BadRequest {
             BadRequest::Verb => "verb",
             BadRequest::Date => "date",
             BadRequest::Id => "id",
+            BadRequest::Code => "code",
             BadRequest::Parameter => "parameter",
             BadRequest::Value(parameter) => parameter.name(),
             BadRequest::Box => "box",
@@ -86,13 +104,13 @@ fn text_of(bytes: &[u8]) -> Option<&str>
 }
 
 /// What stands before the first space, and what stands behind it, if there is one.
-fn split_verb(line: &str) -> (&str, Option<&str>)
-    ensures verb { result.0.now ≡ verb_of line.now }
-    ensures rest { option_copied result.1 ≡ rest_of line.now }
+pub(crate) fn split_space(text: &str) -> (&str, Option<&str>)
+    ensures before { result.0.now ≡ before_space text.now }
+    ensures rest { option_copied result.1 ≡ behind_space text.now }
 {
-    match line.split_once(' ') {
-        Some((verb, rest)) => (verb, Some(rest)),
-        None => (line, None),
+    match text.split_once(' ') {
+        Some((before, rest)) => (before, Some(rest)),
+        None => (text, None),
     }
 }
 
@@ -107,6 +125,12 @@ fn read_verb(text: &str) -> Option<Verb>
         Some(Verb::Get)
     } else if text == "search" {
         Some(Verb::Search)
+    } else if text == "children" {
+        Some(Verb::Children)
+    } else if text == "hierarchy" {
+        Some(Verb::Hierarchy)
+    } else if text == "admin" {
+        Some(Verb::Admin)
     } else {
         None
     }
@@ -127,6 +151,16 @@ fn id_in_rest(rest: Option<&str>) -> Option<u32>
     match rest {
         Some(text) => read_id(text.as_bytes()),
         None => None,
+    }
+}
+
+/// The rest, where it is a code.
+fn code_in_rest<'a>(rest: Option<&'a str>) -> Option<&'a str>
+    ensures { option_copied result ≡ option_and_then code_in (option_copied rest.entry) }
+{
+    match rest {
+        Some(text) if !text.is_empty() && text.len() <= LONGEST_CODE => Some(text),
+        _ => None,
     }
 }
 
@@ -154,6 +188,18 @@ fn request_of<'a>(verb: Option<Verb>, rest: Option<&'a str>) -> Result<Request<'
             Ok(query) => Ok(Request::Search(query)),
             Err(bad) => Err(bad),
         },
+        Some(Verb::Children) => match read_children(rest) {
+            Ok((id, max)) => Ok(Request::Children(id, max)),
+            Err(bad) => Err(bad),
+        },
+        Some(Verb::Hierarchy) => match id_in_rest(rest) {
+            Some(id) => Ok(Request::Hierarchy(id)),
+            None => Err(BadRequest::Id),
+        },
+        Some(Verb::Admin) => match code_in_rest(rest) {
+            Some(code) => Ok(Request::Admin(code)),
+            None => Err(BadRequest::Code),
+        },
         None => Err(BadRequest::Verb),
     }
 }
@@ -172,6 +218,6 @@ pub fn read_request(line: &[u8]) -> Result<Request<'_>, BadRequest>
     let Some(text) = text_of(line) else {
         return Err(BadRequest::Utf8);
     };
-    let (verb, rest) = split_verb(text);
+    let (verb, rest) = split_space(text);
     request_of(read_verb(verb), rest)
 }

@@ -13,6 +13,18 @@ returns-in-Rows-clause-utf8 c = subst (λ name. IsUtf8 (file_text name)) (sym c.
 pub returns-in-Alternates-clause-utf8 : goal.returns-in-Alternates-clause-utf8
 returns-in-Alternates-clause-utf8 c = subst (λ name. IsUtf8 (file_text name)) (sym c.in-Alternates.is) (plain_utf8 (codes "alternateNamesV2.txt") refl)
 
+pub returns-in-Links-clause-utf8 : goal.returns-in-Links-clause-utf8
+returns-in-Links-clause-utf8 c = subst (λ name. IsUtf8 (file_text name)) (sym c.in-Links.is) (plain_utf8 (codes "hierarchy.txt") refl)
+
+pub returns-in-Countries-clause-utf8 : goal.returns-in-Countries-clause-utf8
+returns-in-Countries-clause-utf8 c = subst (λ name. IsUtf8 (file_text name)) (sym c.in-Countries.is) (plain_utf8 (codes "countryInfo.txt") refl)
+
+pub returns-in-Admin1-clause-utf8 : goal.returns-in-Admin1-clause-utf8
+returns-in-Admin1-clause-utf8 c = subst (λ name. IsUtf8 (file_text name)) (sym c.in-Admin1.is) (plain_utf8 (codes "admin1CodesASCII.txt") refl)
+
+pub returns-in-Admin2-clause-utf8 : goal.returns-in-Admin2-clause-utf8
+returns-in-Admin2-clause-utf8 c = subst (λ name. IsUtf8 (file_text name)) (sym c.in-Admin2.is) (plain_utf8 (codes "admin2Codes.txt") refl)
+
 pub returns-in-Modifications-clause-utf8 : goal.returns-in-Modifications-clause-utf8
 returns-in-Modifications-clause-utf8 c = subst (λ name. IsUtf8 (file_text name)) (sym c.in-Modifications.is) (daily_utf8 (codes "modifications-") c.in-Modifications.day refl c.put_daily.ensures.ascii)
 

@@ -1,0 +1,4 @@
+pub mod Parent
+pub mod Questions
+pub mod Chain
+pub mod Laws
