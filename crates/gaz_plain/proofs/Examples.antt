@@ -42,9 +42,15 @@ one name bytes asked = if bytes_eq name asked then Some bytes else None
 abbrev beside : List ℕ → List ℕ → Files → Files
 beside name bytes files asked = if bytes_eq name asked then Some bytes else files asked
 
--- the files of a load, of which that of the alternate names is empty
+-- the files of a load, of which all but that of the rows are empty
 abbrev loaded_from : List ℕ → Files
-loaded_from rows = beside (codes "allCountries.txt") rows (one (codes "alternateNamesV2.txt") [])
+loaded_from rows =
+    beside (codes "allCountries.txt") rows
+    (beside (codes "alternateNamesV2.txt") []
+    (beside (codes "hierarchy.txt") []
+    (beside (codes "countryInfo.txt") []
+    (beside (codes "admin1CodesASCII.txt") []
+    (one (codes "admin2Codes.txt") [])))))
 
 -- the files of a day, of which those of the alternate names are empty
 abbrev changed_by : List ℕ → List ℕ → Files

@@ -5,13 +5,14 @@ use Rattle.std.specs.Prelude.{if◌then◌else◌, nat_lt, is_some, All, AllPair
 use Rattle.std.proofs.lemmas.Bool.Decides.{nat_tests}
 use Rattle.std.proofs.lemmas.List.Elements.{All-nil, All-cons}
 use Rattle.gaz_num.specs.declared.words.Kind.{Kind}
-use Rattle.gaz_num.specs.declared.words.Kind.TheVariants.{Row, RowDelete, Alt, AltDelete}
+use Rattle.gaz_num.specs.declared.words.Kind.TheVariants.{Row, RowDelete, Alt, AltDelete, Link, Country}
+use Rattle.gaz_num.specs.declared.words.Kind.TheVariants as kind
 use Rattle.gaz_num.specs.declared.words.Table.{Table}
-use Rattle.gaz_num.specs.declared.words.Table.TheVariants.{Rows, Alternates}
+use Rattle.gaz_num.specs.declared.words.Table.TheVariants.{Rows, Alternates, Links, Countries, Codes}
 use Rattle.gaz_num.specs.declared.words.Reason.{Reason}
 use Rattle.gaz_num.specs.Check.{reason_against, key_in}
 use Rattle.gaz_num.specs.Refusal.{Refusal, sequence, ◌>>=◌}
-use Rattle.gaz_plain.specs.Gazetteer.{Gazetteer, empty, dated, in_tables, IsLine, IsTable, IsGazetteer, KeysRise, limit_of, lines_in, with_lines, kind_in, key_of, table_of, is_delete, put_by, replaced, step, step_at, if_within, after_check, after_line}
+use Rattle.gaz_plain.specs.Gazetteer.{Gazetteer, empty, dated, IsLine, IsTable, IsGazetteer, KeysRise, limit_of, lines_in, with_lines, kind_in, key_of, table_of, is_delete, put_by, replaced, step, step_at, if_within, after_check, after_line}
 use Rattle.gaz_plain.specs.Fold.{File, fold}
 use Rattle.gaz_plain.specs.Load.{Files, load, day, load_files, day_files, files_of, in_sequence}
 use Rattle.gaz_plain.specs.Laws.{IsGazetteerOf, FoldKeeps, PartKeeps, LoadGives, DayGives, DayTwice}
@@ -24,10 +25,9 @@ use Rattle.gaz_plain.proofs.Steps.{own_lines, one_or_other, key_of_put}
 date_kept : (gaz : Gazetteer) (table : Table) (lines : List (List ℕ)) → (with_lines gaz table lines).date ≡ gaz.date
 date_kept gaz Rows lines = refl
 date_kept gaz Alternates lines = refl
-
-no_more_kept : (gaz : Gazetteer) (table : Table) (lines : List (List ℕ)) → gaz ≡ in_tables gaz → with_lines gaz table lines ≡ in_tables (with_lines gaz table lines)
-no_more_kept gaz Rows lines is = ap (λ g. with_lines g Rows lines) is
-no_more_kept gaz Alternates lines is = ap (λ g. with_lines g Alternates lines) is
+date_kept gaz Links lines = refl
+date_kept gaz Countries lines = refl
+date_kept gaz Codes lines = refl
 
 -- other lines that are a table
 pub lines_kept : (date : Option ℕ) → IsSome date → (gaz : Gazetteer) (table : Table) (lines : List (List ℕ)) → IsGazetteerOf date gaz → IsTable table lines → IsGazetteerOf date (with_lines gaz table lines)
@@ -37,7 +37,6 @@ lines_kept date some gaz table lines is are = record {
       | inl same ↦ rw (same, own_lines) are
       | inr apart ↦ subst (IsTable t) (sym apart) (is.is_gazetteer.tables t)
     ];
-    no_more = no_more_kept gaz table lines is.is_gazetteer.no_more;
     undated = λ none. absurd (true≢false (sym some ∙ ap is_some (sym is.has_date ∙ sym (date_kept gaz table lines) ∙ none)));
   };
   has_date = date_kept gaz table lines ∙ is.has_date;
@@ -51,6 +50,9 @@ put_each Row line is = All-cons (IsLine Row) line [] is (All-nil (IsLine Row))
 put_each RowDelete line is = All-nil (IsLine Row)
 put_each Alt line is = All-cons (IsLine Alt) line [] is (All-nil (IsLine Alt))
 put_each AltDelete line is = All-nil (IsLine Alt)
+put_each Link line is = All-cons (IsLine Link) line [] is (All-nil (IsLine Link))
+put_each Country line is = All-cons (IsLine Country) line [] is (All-nil (IsLine Country))
+put_each kind.Code line is = All-cons (IsLine kind.Code) line [] is (All-nil (IsLine kind.Code))
 
 -- it has the key
 put_keyed : (kind : Kind) (line key : List ℕ) → key_in kind line ≡ Some key → All (λ l. key_of (table_of kind) l ≡ key) (put_by kind line)
@@ -68,18 +70,18 @@ put_rising kind line = by (is_delete kind) refl
     by true is = rw is (rising_none (table_of kind))
     by false is = rw is (rising_one (table_of kind) line)
 
-module _ (date : Option ℕ) (some : IsSome date) (gaz : Gazetteer) (is : IsGazetteerOf date gaz) (kind : Kind) (line : List ℕ) (each : All (IsLine (kind_in (table_of kind))) (put_by kind line)) where
+module _ (date : Option ℕ) (some : IsSome date) (gaz : Gazetteer) (is : IsGazetteerOf date gaz) (kind : Kind) (line : List ℕ) where
   -- the table after an edit at the key of the line
-  pub edit_kept : (key : List ℕ) → key_in kind line ≡ Some key → length (replaced (table_of kind) key (put_by kind line) (lines_in gaz (table_of kind))) ≤ limit_of (table_of kind)
+  pub edit_kept : All (IsLine (kind_in (table_of kind))) (put_by kind line) → (key : List ℕ) → key_in kind line ≡ Some key → length (replaced (table_of kind) key (put_by kind line) (lines_in gaz (table_of kind))) ≤ limit_of (table_of kind)
       → IsGazetteerOf date (with_lines gaz (table_of kind) (replaced (table_of kind) key (put_by kind line) (lines_in gaz (table_of kind))))
-  edit_kept key e within =
+  edit_kept each key e within =
       lines_kept date some gaz (table_of kind) (replaced (table_of kind) key (put_by kind line) (lines_in gaz (table_of kind))) is
       (IsTable-replaced (table_of kind) key (put_by kind line) (lines_in gaz (table_of kind)) (is.is_gazetteer.tables (table_of kind)) each (put_keyed kind line key e) (put_rising kind line) within)
 
   -- a step within the limit
-  step_kept : (found : Option (List ℕ)) → key_in kind line ≡ found → length (lines_in (step_at gaz kind line found) (table_of kind)) ≤ limit_of (table_of kind) → IsGazetteerOf date (step_at gaz kind line found)
-  step_kept None e within = is
-  step_kept (Some key) e within = edit_kept key e (rw own_lines at within)
+  step_kept : (IsSome (key_in kind line) → IsLine kind line) → (found : Option (List ℕ)) → key_in kind line ≡ found → length (lines_in (step_at gaz kind line found) (table_of kind)) ≤ limit_of (table_of kind) → IsGazetteerOf date (step_at gaz kind line found)
+  step_kept line_if None e within = is
+  step_kept line_if (Some key) e within = edit_kept (put_each kind line (line_if (ap is_some e))) key e (rw own_lines at within)
 
 within_kept : (P : Gazetteer → Type 0) (table : Table) (gaz : Gazetteer) (test : Bool) → nat_lt (limit_of table) (length (lines_in gaz table)) ≡ test → (length (lines_in gaz table) ≤ limit_of table → P gaz) → IfOk (if_within table gaz) P
 within_kept P table gaz true e holds = rw e tt
@@ -95,7 +97,7 @@ unfolding after_line
 line_keeps date some gaz kind bytes one is =
     check_kept (IsGazetteerOf date) gaz kind bytes (reason_against kind bytes) (λ accepted.
     within_kept (IsGazetteerOf date) (table_of kind) (step gaz kind bytes) _ refl (λ within.
-    step_kept date some gaz is kind bytes (put_each kind bytes (record { accepted = accepted; one_line = one })) (key_in kind bytes) refl within))
+    step_kept date some gaz is kind bytes (λ keyed. record { accepted = accepted; keyed = keyed; one_line = one }) (key_in kind bytes) refl within))
 
 step_date : (gaz : Gazetteer) (kind : Kind) (line : List ℕ) (found : Option (List ℕ)) → (step_at gaz kind line found).date ≡ gaz.date
 step_date gaz kind line None = refl
@@ -120,7 +122,6 @@ dated_is : (gaz : Gazetteer) (date : ℕ) → IsGazetteer gaz → IsGazetteerOf 
 dated_is gaz date is = record {
   is_gazetteer = record {
     tables = λ t. by t;
-    no_more = ap (λ g. dated g date) is.no_more;
     undated = λ none. cc;
   };
   has_date = refl;
@@ -129,14 +130,20 @@ dated_is gaz date is = record {
     by : (t : Table) → IsTable t (lines_in (dated gaz date) t)
     by Rows = is.tables Rows
     by Alternates = is.tables Alternates
+    by Links = is.tables Links
+    by Countries = is.tables Countries
+    by Codes = is.tables Codes
 
 -- the empty one is a gazetteer
 pub empty_is : IsGazetteer empty
-empty_is = record { tables = λ t. by t; no_more = refl; undated = λ none. refl }
+empty_is = record { tables = λ t. by t; undated = λ none. refl }
   where
     by : (t : Table) → IsTable t (lines_in empty t)
     by Rows = record { each = All-nil (IsLine Row); rising = rising_none Rows; within = grind arith }
     by Alternates = record { each = All-nil (IsLine Alt); rising = rising_none Alternates; within = grind arith }
+    by Links = record { each = All-nil (IsLine Link); rising = rising_none Links; within = grind arith }
+    by Countries = record { each = All-nil (IsLine Country); rising = rising_none Countries; within = grind arith }
+    by Codes = record { each = All-nil (IsLine kind.Code); rising = rising_none Codes; within = grind arith }
 
 folded : (P : Gazetteer → Type 0) → LinesKeep P → (gaz : Gazetteer) → P gaz → (files : Result (List File) Refusal) → IfOk (files >>= λ found. fold gaz found) P
 folded P keep gaz holds files = IfOk-bind P files (λ found. fold gaz found) (IfOk-always (λ found. IfOk (fold gaz found) P) files (λ found. fold_keeps P keep gaz found holds))

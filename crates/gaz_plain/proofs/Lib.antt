@@ -8,6 +8,7 @@ pub mod Steps
 pub mod Taken
 pub mod TextTests
 pub mod Grown
+pub mod Absent
 pub mod EntryLemmas
 pub mod ListLemmas
 pub mod Wanting

@@ -3,9 +3,10 @@ use Rattle.std.proofs.Common.{◌≡◌, ◌≢◌, ℕ, Bool, true, false, List
 use mathlib.Core.Logic.{◌⊎◌}
 use Rattle.std.specs.Ordering.{is_eq}
 use Rattle.gaz_num.specs.declared.words.Kind.{Kind}
-use Rattle.gaz_num.specs.declared.words.Kind.TheVariants.{Row, RowDelete, Alt, AltDelete}
+use Rattle.gaz_num.specs.declared.words.Kind.TheVariants.{Row, RowDelete, Alt, AltDelete, Link, Country}
+use Rattle.gaz_num.specs.declared.words.Kind.TheVariants as kind
 use Rattle.gaz_num.specs.declared.words.Table.{Table}
-use Rattle.gaz_num.specs.declared.words.Table.TheVariants.{Rows, Alternates}
+use Rattle.gaz_num.specs.declared.words.Table.TheVariants.{Rows, Alternates, Links, Countries, Codes}
 use Rattle.gaz_num.specs.Check.{key_in}
 use Rattle.std.specs.Prelude.{unwrap_or}
 use Rattle.gaz_plain.specs.Gazetteer.{Gazetteer, key_of, key_cmp, lines_in, with_lines, table_of, is_delete, put_by, line_at, line_with, replaced, step_at}
@@ -19,13 +20,37 @@ use Rattle.gaz_plain.proofs.Tables.{find-replaced, find-replaced_other}
 pub own_lines : (gaz : Gazetteer) (table : Table) (lines : List (List ℕ)) → lines_in (with_lines gaz table lines) table ≡ lines
 own_lines gaz Rows lines = refl
 own_lines gaz Alternates lines = refl
+own_lines gaz Links lines = refl
+own_lines gaz Countries lines = refl
+own_lines gaz Codes lines = refl
 
 -- a table is the one that was given lines, or has those that it had
 pub one_or_other : (gaz : Gazetteer) (given : Table) (lines : List (List ℕ)) (table : Table) → (table ≡ given) ⊎ (lines_in (with_lines gaz given lines) table ≡ lines_in gaz table)
 one_or_other gaz Rows lines Rows = inl refl
 one_or_other gaz Rows lines Alternates = inr refl
+one_or_other gaz Rows lines Links = inr refl
+one_or_other gaz Rows lines Countries = inr refl
+one_or_other gaz Rows lines Codes = inr refl
 one_or_other gaz Alternates lines Rows = inr refl
 one_or_other gaz Alternates lines Alternates = inl refl
+one_or_other gaz Alternates lines Links = inr refl
+one_or_other gaz Alternates lines Countries = inr refl
+one_or_other gaz Alternates lines Codes = inr refl
+one_or_other gaz Links lines Rows = inr refl
+one_or_other gaz Links lines Alternates = inr refl
+one_or_other gaz Links lines Links = inl refl
+one_or_other gaz Links lines Countries = inr refl
+one_or_other gaz Links lines Codes = inr refl
+one_or_other gaz Countries lines Rows = inr refl
+one_or_other gaz Countries lines Alternates = inr refl
+one_or_other gaz Countries lines Links = inr refl
+one_or_other gaz Countries lines Countries = inl refl
+one_or_other gaz Countries lines Codes = inr refl
+one_or_other gaz Codes lines Rows = inr refl
+one_or_other gaz Codes lines Alternates = inr refl
+one_or_other gaz Codes lines Links = inr refl
+one_or_other gaz Codes lines Countries = inr refl
+one_or_other gaz Codes lines Codes = inl refl
 
 -- ---- what is put
 
@@ -35,6 +60,9 @@ key_of_put Row line key isnt e = ap (λ k. unwrap_or k []) e
 key_of_put RowDelete line key isnt e = cc
 key_of_put Alt line key isnt e = ap (λ k. unwrap_or k []) e
 key_of_put AltDelete line key isnt e = cc
+key_of_put Link line key isnt e = ap (λ k. unwrap_or k []) e
+key_of_put Country line key isnt e = ap (λ k. unwrap_or k []) e
+key_of_put kind.Code line key isnt e = ap (λ k. unwrap_or k []) e
 
 -- a line alone is found by its key
 alone : (table : Table) (line key : List ℕ) → key_of table line ≡ key → line_at table key (line ∷ []) ≡ Some line

@@ -34,6 +34,13 @@ fits gaz table within = let test : nat_lt (limit_of table) (length (lines_in gaz
 overflows : (gaz : Gazetteer) (table : Table) → limit_of table < length (lines_in gaz table) → if_within table gaz ≡ Err (full table)
 overflows gaz table past = let test : nat_lt (limit_of table) (length (lines_in gaz table)) ≡ true = grind (arith, nat_tests) in rw test refl
 
+-- a line that has no key changes nothing
+pub comment_taken : (gaz : Gazetteer) (kind : Kind) (line : List ℕ) → IsGazetteer gaz → reason_against kind line ≡ None → key_in kind line ≡ None → after_line gaz kind line ≡ Ok gaz
+comment_taken gaz kind line gazetteer is none =
+    accepted gaz kind line is
+    ∙ ap (λ found. if_within (table_of kind) (step_at gaz kind line found)) none
+    ∙ fits gaz (table_of kind) (gazetteer.tables (table_of kind)).within
+
 module _ (gaz : Gazetteer) (kind : Kind) (line key : List ℕ) (has_key : key_in kind line ≡ Some key) where
   -- the lines of the table after the edit
   abbrev edited : List (List ℕ)

@@ -10,11 +10,11 @@ use Rattle.std.specs.declared.cmp.Ordering.TheVariants.{Less, Equal, Greater}
 use Rattle.std.proofs.lemmas.Bool.Decides.{nat_tests, Decides-and, Decides-by_and, Decides-like}
 use Rattle.gaz_num.specs.declared.words.Kind.{Kind}
 use Rattle.gaz_num.specs.declared.words.Table.{Table}
-use Rattle.gaz_num.specs.declared.words.Table.TheVariants.{Rows, Alternates}
+use Rattle.gaz_num.specs.declared.words.Table.TheVariants.{Rows, Alternates, Links, Countries, Codes}
 use Rattle.gaz_num.specs.declared.words.Reason.{Reason}
-use Rattle.gaz_num.specs.Check.{reason_against}
-use Rattle.gaz_plain.specs.Gazetteer.{Gazetteer, IsLine, IsTable, IsGazetteer, KeysRise, in_tables, kind_in, key_of, key_cmp, limit_of, lines_in, is_one_line}
-use Rattle.gaz_plain.specs.Text.{is_line, has_lesser_key, keys_rise, is_table, has_no_line, has_no_more, is_dated_gazetteer}
+use Rattle.gaz_num.specs.Check.{reason_against, key_in}
+use Rattle.gaz_plain.specs.Gazetteer.{Gazetteer, IsLine, IsTable, IsGazetteer, KeysRise, kind_in, key_of, key_cmp, limit_of, lines_in, is_one_line}
+use Rattle.gaz_plain.specs.Text.{is_line, has_lesser_key, keys_rise, is_table, is_dated_gazetteer}
 
 none_told : (o : Option Reason) → Decides (is_none o) (o ≡ None)
 none_told None = (λ _. refl, λ _. refl)
@@ -23,9 +23,11 @@ none_told (Some r) = (λ e. absurd (true≢false (sym e)), λ e. ap is_none e)
 pub line_told : (kind : Kind) (line : List ℕ) → Decides (is_line kind line) (IsLine kind line)
 line_told kind line =
     Decides-like (is_line kind line)
-    (λ both. record { accepted = both.0; one_line = both.1 })
-    (λ is. (is.accepted, is.one_line))
-    (Decides-and (is_none (reason_against kind line)) (is_one_line line) (none_told (reason_against kind line)) (λ e. e, λ e. e))
+    (λ all. record { accepted = all.0.0; keyed = all.0.1; one_line = all.1 })
+    (λ is. ((is.accepted, is.keyed), is.one_line))
+    (Decides-and (is_none (reason_against kind line) && is_some (key_in kind line)) (is_one_line line)
+    (Decides-and (is_none (reason_against kind line)) (is_some (key_in kind line)) (none_told (reason_against kind line)) (λ e. e, λ e. e))
+    (λ e. e, λ e. e))
 
 less_told : (r : Ordering) → Decides (is_lt r) (r ≡ Less)
 less_told Less = (λ _. refl, λ _. refl)
@@ -72,37 +74,30 @@ table_told table lines =
     (rise_told table lines))
     (le_told (length lines) (limit_of table)))
 
-nil_told : (lines : List (List ℕ)) → Decides (has_no_line lines) (lines ≡ [])
-nil_told [] = (λ _. refl, λ _. refl)
-nil_told (line ∷ lines) = (λ e. absurd (true≢false (sym e)), λ e. ap has_no_line e)
-
-more_told : (gaz : Gazetteer) → Decides (has_no_more gaz) (gaz ≡ in_tables gaz)
-more_told gaz =
-    Decides-like (has_no_more gaz)
-    (λ all. λ i. record { date = gaz.date; rows = gaz.rows; alternates = gaz.alternates; links = all.0.0 i; countries = all.0.1 i; codes = all.1 i })
-    (λ is. ((ap (λ (g : Gazetteer). g.links) is, ap (λ (g : Gazetteer). g.countries) is), ap (λ (g : Gazetteer). g.codes) is))
-    (Decides-and ((has_no_line gaz.links) && (has_no_line gaz.countries)) (has_no_line gaz.codes)
-    (Decides-and (has_no_line gaz.links) (has_no_line gaz.countries) (nil_told gaz.links) (nil_told gaz.countries))
-    (nil_told gaz.codes))
-
-dated_gazetteer : (gaz : Gazetteer) → IsSome gaz.date → IsTable Rows gaz.rows → IsTable Alternates gaz.alternates → gaz ≡ in_tables gaz → IsGazetteer gaz
-dated_gazetteer gaz some rows alternates more = record {
+dated_gazetteer : (gaz : Gazetteer) → IsSome gaz.date → IsTable Rows gaz.rows → IsTable Alternates gaz.alternates → IsTable Links gaz.links → IsTable Countries gaz.countries → IsTable Codes gaz.codes → IsGazetteer gaz
+dated_gazetteer gaz some rows alternates links countries code_lines = record {
   tables = λ t. by t;
-  no_more = more;
   undated = λ none. absurd (true≢false (sym some ∙ ap is_some none));
 }
   where
     by : (t : Table) → IsTable t (lines_in gaz t)
     by Rows = rows
     by Alternates = alternates
+    by Links = links
+    by Countries = countries
+    by Codes = code_lines
 
 pub gazetteer_told : (gaz : Gazetteer) → Decides (is_dated_gazetteer gaz) (IsSome gaz.date × IsGazetteer gaz)
 gazetteer_told gaz =
     Decides-like (is_dated_gazetteer gaz)
-    (λ all. (all.0.0.0, dated_gazetteer gaz all.0.0.0 all.0.0.1 all.0.1 all.1))
-    (λ is. (((is.0, is.1.tables Rows), is.1.tables Alternates), is.1.no_more))
-    (Decides-and (is_some gaz.date && is_table Rows gaz.rows && is_table Alternates gaz.alternates) (has_no_more gaz)
+    (λ all. (all.0.0.0.0.0, dated_gazetteer gaz all.0.0.0.0.0 all.0.0.0.0.1 all.0.0.0.1 all.0.0.1 all.0.1 all.1))
+    (λ is. (((((is.0, is.1.tables Rows), is.1.tables Alternates), is.1.tables Links), is.1.tables Countries), is.1.tables Codes))
+    (Decides-and (is_some gaz.date && is_table Rows gaz.rows && is_table Alternates gaz.alternates && is_table Links gaz.links && is_table Countries gaz.countries) (is_table Codes gaz.codes)
+    (Decides-and (is_some gaz.date && is_table Rows gaz.rows && is_table Alternates gaz.alternates && is_table Links gaz.links) (is_table Countries gaz.countries)
+    (Decides-and (is_some gaz.date && is_table Rows gaz.rows && is_table Alternates gaz.alternates) (is_table Links gaz.links)
     (Decides-and (is_some gaz.date && is_table Rows gaz.rows) (is_table Alternates gaz.alternates)
     (Decides-and (is_some gaz.date) (is_table Rows gaz.rows) (λ e. e, λ e. e) (table_told Rows gaz.rows))
     (table_told Alternates gaz.alternates))
-    (more_told gaz))
+    (table_told Links gaz.links))
+    (table_told Countries gaz.countries))
+    (table_told Codes gaz.codes))

@@ -1,14 +1,15 @@
 -- A gazetteer, and what one line makes of it.
-use Rattle.std.specs.Prelude.{◌≡◌, ℕ, ◌^◌, ◌≤◌, Bool, true, false, IsTrue, not, List, [], ◌∷◌, ◌++◌, length, filter, find, Option, Some, None, Result, Ok, Err, unwrap_or, All, AllPairs, if◌then◌else◌, ◌==◌, nat_lt}
+use Rattle.std.specs.Prelude.{◌≡◌, ℕ, ◌^◌, ◌≤◌, Bool, true, false, IsTrue, IsSome, not, List, [], ◌∷◌, ◌++◌, length, filter, find, Option, Some, None, Result, Ok, Err, unwrap_or, All, AllPairs, if◌then◌else◌, ◌==◌, nat_lt}
 use Rattle.std.specs.List.{list_any}
 use Rattle.std.specs.Cmp.Lexicographic.{slice_cmp}
 use Rattle.std.specs.Ordering.{nat_cmp, is_lt, is_gt, is_eq}
 use Rattle.std.specs.declared.cmp.Ordering.{Ordering}
 use Rattle.std.specs.declared.cmp.Ordering.TheVariants.{Less}
 use Rattle.gaz_num.specs.declared.words.Kind.{Kind}
-use Rattle.gaz_num.specs.declared.words.Kind.TheVariants.{Row, RowDelete, Alt, AltDelete}
+use Rattle.gaz_num.specs.declared.words.Kind.TheVariants.{Row, RowDelete, Alt, AltDelete, Link, Country}
+use Rattle.gaz_num.specs.declared.words.Kind.TheVariants as kind
 use Rattle.gaz_num.specs.declared.words.Table.{Table}
-use Rattle.gaz_num.specs.declared.words.Table.TheVariants.{Rows, Alternates}
+use Rattle.gaz_num.specs.declared.words.Table.TheVariants.{Rows, Alternates, Links, Countries, Codes}
 use Rattle.gaz_num.specs.declared.words.Reason.{Reason}
 use Rattle.gaz_num.specs.Check.{reason_against, key_in}
 
@@ -33,25 +34,33 @@ dated gaz date = record gaz { date = Some date }
 abbrev pub lines_in : Gazetteer → Table → List (List ℕ)
 lines_in gaz Rows = gaz.rows
 lines_in gaz Alternates = gaz.alternates
+lines_in gaz Links = gaz.links
+lines_in gaz Countries = gaz.countries
+lines_in gaz Codes = gaz.codes
 
 -- the gazetteer with these as the lines of a table
 abbrev pub with_lines : Gazetteer → Table → List (List ℕ) → Gazetteer
 with_lines gaz Rows lines = record gaz { rows = lines }
 with_lines gaz Alternates lines = record gaz { alternates = lines }
-
--- the gazetteer without the lists for which there is no table yet: each new table adds its list here
-abbrev pub in_tables : Gazetteer → Gazetteer
-in_tables gaz = record empty { date = gaz.date; rows = gaz.rows; alternates = gaz.alternates }
+with_lines gaz Links lines = record gaz { links = lines }
+with_lines gaz Countries lines = record gaz { countries = lines }
+with_lines gaz Codes lines = record gaz { codes = lines }
 
 -- how many lines a table may hold
 abbrev pub limit_of : Table → ℕ
 limit_of Rows = 2 ^ 25
 limit_of Alternates = 2 ^ 25
+limit_of Links = 2 ^ 23
+limit_of Countries = 1024
+limit_of Codes = 2 ^ 20
 
 -- the kind of the lines that a table holds
 abbrev pub kind_in : Table → Kind
 kind_in Rows = Row
 kind_in Alternates = Alt
+kind_in Links = Link
+kind_in Countries = Country
+kind_in Codes = kind.Code
 
 -- the table that a line of a kind changes
 abbrev pub table_of : Kind → Table
@@ -59,6 +68,9 @@ table_of Row = Rows
 table_of RowDelete = Rows
 table_of Alt = Alternates
 table_of AltDelete = Alternates
+table_of Link = Links
+table_of Country = Countries
+table_of kind.Code = Codes
 
 -- whether a line of a kind only takes out
 abbrev pub is_delete : Kind → Bool
@@ -66,6 +78,9 @@ is_delete Row = false
 is_delete RowDelete = true
 is_delete Alt = false
 is_delete AltDelete = true
+is_delete Link = false
+is_delete Country = false
+is_delete kind.Code = false
 
 -- the key of a line of a table, and no number where it has none
 abbrev pub key_of : Table → List ℕ → List ℕ
@@ -79,9 +94,10 @@ key_cmp a b = slice_cmp nat_cmp a b
 abbrev pub is_one_line : List ℕ → Bool
 is_one_line line = not (list_any (λ byte. byte == 10) line)
 
--- A line of a kind is one that its check accepts and in which no LF stands.
+-- A line of a kind is one that its check accepts, that has a key, and in which no LF stands: a comment is none.
 pub record IsLine (kind : Kind) (line : List ℕ) : Type 0 where
   pub accepted : reason_against kind line ≡ None
+  pub keyed : IsSome (key_in kind line)
   pub one_line : IsTrue (is_one_line line)
 
 -- The first line has the lesser key.
@@ -94,10 +110,9 @@ pub record IsTable (table : Table) (lines : List (List ℕ)) : Type 0 where
   pub rising : AllPairs (KeysRise table) lines
   pub within : length lines ≤ limit_of table
 
--- Each list is a table, lists without a table are empty, and without a date so are all.
+-- Each list is a table, and without a date all are empty.
 pub record IsGazetteer (gaz : Gazetteer) : Type 0 where
   pub tables : (table : Table) → IsTable table (lines_in gaz table)
-  pub no_more : gaz ≡ in_tables gaz
   pub undated : gaz.date ≡ None → gaz ≡ empty
 
 -- the one of these lines that has the key

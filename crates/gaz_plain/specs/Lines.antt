@@ -1,8 +1,11 @@
 -- The lines of a table that are still to come.
 use Rattle.std.specs.Prelude.{ℕ, List}
 use Rattle.gaz_plain.specs.declared.lines.OfTable.{OfTable}
-use Rattle.gaz_plain.specs.declared.lines.OfTable.TheVariants.{Rows, Alternates}
+use Rattle.gaz_plain.specs.declared.lines.OfTable.TheVariants.{Rows, Alternates, Links, Countries, Codes}
 
 abbrev pub still_in : OfTable → List (List ℕ)
 still_in (Rows lines) = lines
 still_in (Alternates lines) = lines
+still_in (Links lines) = lines
+still_in (Countries lines) = lines
+still_in (Codes lines) = lines

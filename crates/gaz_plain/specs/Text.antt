@@ -4,8 +4,8 @@ use Rattle.std.specs.List.{flat_map, list_all}
 use Rattle.std.specs.Ordering.{is_lt}
 use Rattle.gaz_num.specs.declared.words.Kind.{Kind}
 use Rattle.gaz_num.specs.declared.words.Table.{Table}
-use Rattle.gaz_num.specs.declared.words.Table.TheVariants.{Rows, Alternates}
-use Rattle.gaz_num.specs.Check.{reason_against}
+use Rattle.gaz_num.specs.declared.words.Table.TheVariants.{Rows, Alternates, Links, Countries, Codes}
+use Rattle.gaz_num.specs.Check.{reason_against, key_in}
 use Rattle.gaz_plain.specs.Gazetteer.{Gazetteer, limit_of, kind_in, key_of, key_cmp, is_one_line}
 
 -- the lines, each with an LF behind it
@@ -20,9 +20,9 @@ all_lines gaz = gaz.rows ++ gaz.alternates ++ gaz.links ++ gaz.countries ++ gaz.
 abbrev pub text_of : Gazetteer → List ℕ
 text_of gaz = lined (all_lines gaz)
 
--- whether a line is accepted by the check of its kind and has no LF
+-- whether a line is accepted by the check of its kind, has a key, and has no LF
 abbrev pub is_line : Kind → List ℕ → Bool
-is_line kind line = is_none (reason_against kind line) && is_one_line line
+is_line kind line = is_none (reason_against kind line) && is_some (key_in kind line) && is_one_line line
 
 -- whether the first line has the lesser key
 abbrev pub has_lesser_key : Table → List ℕ → List ℕ → Bool
@@ -42,10 +42,8 @@ abbrev pub has_no_line : List (List ℕ) → Bool
 has_no_line [] = true
 has_no_line (line ∷ lines) = false
 
--- whether the lists for which there is no table yet are empty
-abbrev pub has_no_more : Gazetteer → Bool
-has_no_more gaz = has_no_line gaz.links && has_no_line gaz.countries && has_no_line gaz.codes
-
 -- whether a date and five lists of lines are a gazetteer with that date
 abbrev pub is_dated_gazetteer : Gazetteer → Bool
-is_dated_gazetteer gaz = is_some gaz.date && is_table Rows gaz.rows && is_table Alternates gaz.alternates && has_no_more gaz
+is_dated_gazetteer gaz =
+    is_some gaz.date && is_table Rows gaz.rows && is_table Alternates gaz.alternates
+    && is_table Links gaz.links && is_table Countries gaz.countries && is_table Codes gaz.codes

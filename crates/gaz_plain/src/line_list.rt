@@ -15,6 +15,9 @@ fn limit_of(table: Table) -> usize
     match table {
         Table::Rows => 33_554_432,
         Table::Alternates => 33_554_432,
+        Table::Links => 8_388_608,
+        Table::Countries => 1_024,
+        Table::Codes => 1_048_576,
     }
 }
 

@@ -1,12 +1,16 @@
 //! The lines of any table, one after another.
-use crate::key::{AltId, RowId};
+use crate::key::{AdminCode, AltId, CountryCode, RowId};
 use crate::line_list::LineIter;
+use gaz_tables::LinkKey;
 use std::marker::Model;
 
 #[derive(Drop)]
 enum OfTable<'a> {
     Rows(LineIter<'a, RowId>),
     Alternates(LineIter<'a, AltId>),
+    Links(LineIter<'a, LinkKey>),
+    Countries(LineIter<'a, CountryCode>),
+    Codes(LineIter<'a, AdminCode>),
 }
 
 /// Lines of a table that are still to come, in the order of their keys, seen as their list.
@@ -42,6 +46,30 @@ impl<'a> Lines<'a> {
             lines: OfTable::Alternates(alternates),
         }
     }
+
+    pub(crate) fn of_links(links: LineIter<'a, LinkKey>) -> Lines<'a>
+        ensures { result ≡ links.entry }
+    {
+        Lines {
+            lines: OfTable::Links(links),
+        }
+    }
+
+    pub(crate) fn of_countries(countries: LineIter<'a, CountryCode>) -> Lines<'a>
+        ensures { result ≡ countries.entry }
+    {
+        Lines {
+            lines: OfTable::Countries(countries),
+        }
+    }
+
+    pub(crate) fn of_codes(codes: LineIter<'a, AdminCode>) -> Lines<'a>
+        ensures { result ≡ codes.entry }
+    {
+        Lines {
+            lines: OfTable::Codes(codes),
+        }
+    }
 }
 
 impl<'a> Iterator for Lines<'a> {
@@ -59,6 +87,9 @@ impl<'a> Iterator for Lines<'a> {
         match &mut self.lines {
             OfTable::Rows(rows) => rows.next(),
             OfTable::Alternates(alternates) => alternates.next(),
+            OfTable::Links(links) => links.next(),
+            OfTable::Countries(countries) => countries.next(),
+            OfTable::Codes(codes) => codes.next(),
         }
     }
 }

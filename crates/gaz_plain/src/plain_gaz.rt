@@ -11,7 +11,7 @@ ghost use Rattle.gaz_plain.specs.Faults.{IsFaultOf};
 ghost use Rattle.gaz_plain.specs.Wanted.{wanted_of, fits_any};
 
 use crate::PlainFault;
-use crate::key::{AltId, RowId};
+use crate::key::{AdminCode, AltId, CountryCode, RowId};
 use crate::line_list::LineList;
 use crate::lines::Lines;
 use crate::wanted::Wanted;
@@ -19,6 +19,7 @@ use gaz_alt::{Alt, check_alt, check_delete};
 use gaz_num::{Day, Kind, Table};
 use gaz_pick::{Best, Query, first_of_more, passes};
 use gaz_row::{Row, check_row};
+use gaz_tables::{LinkKey, check_code, check_country, check_link};
 use std::alloc::{AllocError, Global};
 use std::marker::Model;
 
@@ -28,16 +29,19 @@ pub struct PlainGaz {
     date: Option<Day>,
     rows: LineList<RowId>,
     alternates: LineList<AltId>,
+    links: LineList<LinkKey>,
+    countries: LineList<CountryCode>,
+    codes: LineList<AdminCode>,
 }
 
 impl Model for PlainGaz {
-    ghost use Rattle.gaz_plain.specs.Gazetteer.{Gazetteer, IsGazetteer, empty};
+    ghost use Rattle.gaz_plain.specs.Gazetteer.{Gazetteer, IsGazetteer};
 
     ghost Value = { Gazetteer };
 
-    ghost view = { λ gaz. record empty { date = gaz.date; rows = gaz.rows; alternates = gaz.alternates } };
+    ghost view = { λ gaz. record { date = gaz.date; rows = gaz.rows; alternates = gaz.alternates; links = gaz.links; countries = gaz.countries; codes = gaz.codes } };
 
-    ghost invariant = { λ gaz. IsGazetteer (record empty { date = gaz.date; rows = gaz.rows; alternates = gaz.alternates }) };
+    ghost invariant = { λ gaz. IsGazetteer (record { date = gaz.date; rows = gaz.rows; alternates = gaz.alternates; links = gaz.links; countries = gaz.countries; codes = gaz.codes }) };
 }
 
 impl PlainGaz {
@@ -49,6 +53,9 @@ impl PlainGaz {
             date: None,
             rows: LineList::new(alloc),
             alternates: LineList::new(alloc),
+            links: LineList::new(alloc),
+            countries: LineList::new(alloc),
+            codes: LineList::new(alloc),
         }
     }
 
@@ -67,6 +74,9 @@ impl PlainGaz {
             Kind::RowDelete => self.step_row_delete(line),
             Kind::Alt => self.step_alternate(line),
             Kind::AltDelete => self.step_alternate_delete(line),
+            Kind::Link => self.step_link(line),
+            Kind::Country => self.step_country(line),
+            Kind::Code => self.step_code(line),
         }
     }
 
@@ -134,6 +144,52 @@ impl PlainGaz {
         }
     }
 
+    /// Checks a link and puts it at its key.
+    fn step_link(&mut self, line: &[u8]) -> Result<(), PlainFault>
+        requires dated { IsSome self.old.date }
+        requires one_line { IsTrue (is_one_line line.now) }
+        ensures ok { OnOk result (after_line self.old Kind.Link line.now ≡ Ok self.new) }
+        ensures fault { IfErr result (IsFaultOf (after_line self.old Kind.Link line.now)) }
+        ensures refused { OnErr result (self.new ≡ self.old) }
+        ensures date { self.new.date ≡ self.old.date }
+    {
+        match check_link(line) {
+            Ok(key) => self.links.put(key, line),
+            Err(reason) => Err(PlainFault::Malformed(reason)),
+        }
+    }
+
+    /// Checks a country and puts it at its code, and passes over a comment.
+    fn step_country(&mut self, line: &[u8]) -> Result<(), PlainFault>
+        requires dated { IsSome self.old.date }
+        requires one_line { IsTrue (is_one_line line.now) }
+        ensures ok { OnOk result (after_line self.old Kind.Country line.now ≡ Ok self.new) }
+        ensures fault { IfErr result (IsFaultOf (after_line self.old Kind.Country line.now)) }
+        ensures refused { OnErr result (self.new ≡ self.old) }
+        ensures date { self.new.date ≡ self.old.date }
+    {
+        match check_country(line) {
+            Ok(Some(code)) => self.countries.put(CountryCode::within(code), line),
+            Ok(None) => Ok(()),
+            Err(reason) => Err(PlainFault::Malformed(reason)),
+        }
+    }
+
+    /// Checks the line of an admin code and puts it at the code.
+    fn step_code(&mut self, line: &[u8]) -> Result<(), PlainFault>
+        requires dated { IsSome self.old.date }
+        requires one_line { IsTrue (is_one_line line.now) }
+        ensures ok { OnOk result (after_line self.old Kind.Code line.now ≡ Ok self.new) }
+        ensures fault { IfErr result (IsFaultOf (after_line self.old Kind.Code line.now)) }
+        ensures refused { OnErr result (self.new ≡ self.old) }
+        ensures date { self.new.date ≡ self.old.date }
+    {
+        match check_code(line) {
+            Ok(code) => self.codes.put(AdminCode::within(code), line),
+            Err(reason) => Err(PlainFault::Malformed(reason)),
+        }
+    }
+
     /// Sets the date, over the one that there is.
     pub fn set_date(&mut self, day: Day)
         ensures { self.new ≡ dated self.old day }
@@ -155,6 +211,16 @@ impl PlainGaz {
         self.rows.get(&RowId(id))
     }
 
+    /// The line of an admin code, if there is one.
+    pub fn admin(&self, code: &[u8]) -> Option<&[u8]>
+        ensures { option_copied result ≡ line_with Table.Codes code.now self.now }
+    {
+        match AdminCode::of(code) {
+            Some(key) => self.codes.get(&key),
+            None => None,
+        }
+    }
+
     /// How many lines the table has.
     pub fn count(&self, table: Table) -> u32
         ensures { result ≡ length (lines_in self.now table) }
@@ -162,6 +228,9 @@ impl PlainGaz {
         match table {
             Table::Rows => self.rows.len() as u32,
             Table::Alternates => self.alternates.len() as u32,
+            Table::Links => self.links.len() as u32,
+            Table::Countries => self.countries.len() as u32,
+            Table::Codes => self.codes.len() as u32,
         }
     }
 
@@ -172,6 +241,9 @@ impl PlainGaz {
         match table {
             Table::Rows => Lines::of_rows(self.rows.lines()),
             Table::Alternates => Lines::of_alternates(self.alternates.lines()),
+            Table::Links => Lines::of_links(self.links.lines()),
+            Table::Countries => Lines::of_countries(self.countries.lines()),
+            Table::Codes => Lines::of_codes(self.codes.lines()),
         }
     }
 
@@ -188,6 +260,9 @@ impl PlainGaz {
         match table {
             Table::Rows => self.append_row(line),
             Table::Alternates => self.append_alternate(line),
+            Table::Links => self.append_link(line),
+            Table::Countries => self.append_country(line),
+            Table::Codes => self.append_code(line),
         }
     }
 
@@ -219,6 +294,51 @@ impl PlainGaz {
             return Ok(false);
         };
         self.alternates.append(AltId(id), line)
+    }
+
+    /// Puts a link behind all others.
+    fn append_link(&mut self, line: &[u8]) -> Result<bool, AllocError>
+        requires dated { IsSome self.old.date }
+        requires one_line { IsTrue (is_one_line line.now) }
+        ensures fits { IfOk result (λ fits. fits ≡ is_table Table.Links (self.old.links ++ line.now ∷ [])) }
+        ensures put { IfOk result (λ fits. fits ≡ true → self.new ≡ with_lines self.old Table.Links (self.old.links ++ line.now ∷ [])) }
+        ensures left { IfOk result (λ fits. fits ≡ false → self.new ≡ self.old) }
+        ensures err { OnErr result (self.new ≡ self.old) }
+    {
+        let Ok(key) = check_link(line) else {
+            return Ok(false);
+        };
+        self.links.append(key, line)
+    }
+
+    /// Puts a country behind all others. A comment is no line of the table.
+    fn append_country(&mut self, line: &[u8]) -> Result<bool, AllocError>
+        requires dated { IsSome self.old.date }
+        requires one_line { IsTrue (is_one_line line.now) }
+        ensures fits { IfOk result (λ fits. fits ≡ is_table Table.Countries (self.old.countries ++ line.now ∷ [])) }
+        ensures put { IfOk result (λ fits. fits ≡ true → self.new ≡ with_lines self.old Table.Countries (self.old.countries ++ line.now ∷ [])) }
+        ensures left { IfOk result (λ fits. fits ≡ false → self.new ≡ self.old) }
+        ensures err { OnErr result (self.new ≡ self.old) }
+    {
+        let Ok(Some(code)) = check_country(line) else {
+            return Ok(false);
+        };
+        self.countries.append(CountryCode::within(code), line)
+    }
+
+    /// Puts the line of an admin code behind all others.
+    fn append_code(&mut self, line: &[u8]) -> Result<bool, AllocError>
+        requires dated { IsSome self.old.date }
+        requires one_line { IsTrue (is_one_line line.now) }
+        ensures fits { IfOk result (λ fits. fits ≡ is_table Table.Codes (self.old.codes ++ line.now ∷ [])) }
+        ensures put { IfOk result (λ fits. fits ≡ true → self.new ≡ with_lines self.old Table.Codes (self.old.codes ++ line.now ∷ [])) }
+        ensures left { IfOk result (λ fits. fits ≡ false → self.new ≡ self.old) }
+        ensures err { OnErr result (self.new ≡ self.old) }
+    {
+        let Ok(code) = check_code(line) else {
+            return Ok(false);
+        };
+        self.codes.append(AdminCode::within(code), line)
     }
 
     /// Puts the first of the rows that match into `best`, which then has those that the answer is cut from. Memory may be
@@ -301,10 +421,16 @@ impl PlainGaz {
     {
         let rows = self.rows.copy()?;
         let alternates = self.alternates.copy()?;
+        let links = self.links.copy()?;
+        let countries = self.countries.copy()?;
+        let codes = self.codes.copy()?;
         Ok(PlainGaz {
             date: self.date,
             rows,
             alternates,
+            links,
+            countries,
+            codes,
         })
     }
 

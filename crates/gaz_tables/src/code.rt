@@ -1,5 +1,5 @@
 //! Codes of admin divisions.
-ghost use Rattle.std.specs.Prelude.{◌≡◌, MatchResult, Some, None};
+ghost use Rattle.std.specs.Prelude.{◌≡◌, ◌≤◌, length, IfOk, MatchResult, Some, None};
 ghost use Rattle.gaz_num.specs.Check.{reason_against, key_in};
 ghost use Rattle.gaz_num.specs.declared.words.Kind.TheVariants.{Code};
 
@@ -17,9 +17,10 @@ const LONGEST_CODE: usize = 128;
 /// codes; the longest code is this project's own.
 #[tactic(auto, unfolding(gaz_num::specs::Check::reason_against))]
 pub fn check_code(line: &[u8]) -> Result<&[u8], Reason>
-    ensures { MatchResult result
+    ensures told { MatchResult result
         (λ code. (reason_against Code line.now ≡ None) × (key_in Code line.now ≡ Some code.now))
         (λ reason. reason_against Code line.now ≡ Some reason) }
+    ensures short { IfOk result (λ code. length code.now ≤ 128) }
 {
     if line.len() > LONGEST {
         return Err(Reason::Length);

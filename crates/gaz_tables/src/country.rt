@@ -1,5 +1,5 @@
 //! Countries: which place a country's code names.
-ghost use Rattle.std.specs.Prelude.{◌≡◌, MatchResult, Some, None, option_copied};
+ghost use Rattle.std.specs.Prelude.{◌≡◌, ◌≤◌, true, length, IfOk, IfSome, MatchResult, Some, None, option_copied};
 ghost use Rattle.std.specs.List.{list_all};
 ghost use Rattle.gaz_num.specs.Numbers.{id_in};
 ghost use Rattle.gaz_num.specs.Pieces.{column};
@@ -41,7 +41,8 @@ fn are_letters_or_digits(text: &[u8]) -> bool
 
 /// A code of 2 to 4 capital letters or digits.
 fn is_code(text: &[u8]) -> bool
-    ensures { result ≡ is_country_code text.now }
+    ensures told { result ≡ is_country_code text.now }
+    ensures short { result ≡ true → length text.now ≤ 4 }
 {
     text.len() >= SHORTEST_CODE && text.len() <= LONGEST_CODE && are_letters_or_digits(text)
 }
@@ -52,9 +53,10 @@ fn is_code(text: &[u8]) -> bool
 /// countries; which codes are taken is this project's own.
 #[tactic(auto, unfolding(gaz_num::specs::Check::reason_against))]
 pub fn check_country(line: &[u8]) -> Result<Option<&[u8]>, Reason>
-    ensures { MatchResult result
+    ensures told { MatchResult result
         (λ code. (reason_against Country line.now ≡ None) × (key_in Country line.now ≡ option_copied code))
         (λ reason. reason_against Country line.now ≡ Some reason) }
+    ensures short { IfOk result (λ found. IfSome found (λ code. length code.now ≤ 4)) }
 {
     if line.len() > LONGEST {
         return Err(Reason::Length);

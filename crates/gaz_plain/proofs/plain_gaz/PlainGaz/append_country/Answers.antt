@@ -1,0 +1,27 @@
+use Rattle.std.proofs.Common.{ap, IsSome, Some, ◌≡◌, subst, sym, ◌∙◌}
+use Rattle.std.specs.Prelude.{is_some}
+use Rattle.std.specs.Option.{option_copied}
+use Rattle.gaz_num.specs.declared.words.Kind.TheVariants.{Country}
+use Rattle.gaz_num.specs.declared.words.Table.TheVariants.{Countries}
+use Rattle.gaz_num.specs.Check.{key_in}
+use Rattle.gaz_plain.specs.Gazetteer.{Gazetteer}
+use Rattle.gaz_plain.proofs.Grown.{fits_after, table_after, gazetteer_after}
+use Rattle.gaz_plain.proofs.plain_gaz.PlainGaz.append_country.Goals as goal
+
+-- the line is accepted, and stands behind all others
+pub invariant_of-self : goal.invariant_of-self
+invariant_of-self c =
+    let gaz : Gazetteer = record { date = c.self.inside.date; rows = c.self.inside.rows; alternates = c.self.inside.alternates; links = c.self.inside.links; countries = c.self.inside.countries; codes = c.self.inside.codes } in
+    let some : IsSome gaz.date = subst (λ (g : Gazetteer). IsSome g.date) (sym c.self.view_is) c.requires.dated in
+    let has_key : key_in Country c.args.line.now ≡ Some c.within.result.0.items = c.in-Ok-Some.ensures.told.1 ∙ ap option_copied c.in-Ok-Some.field-0-is ∙ ap Some (sym c.within.ensures) in
+    let made = c.append.ensures in
+    gazetteer_after gaz Countries c.append.new.self some c.self.invariant
+    (table_after Countries c.within.result.0.items c.args.line.now gaz.countries has_key c.append.new.self c.append.result (c.self.invariant.tables Countries)
+    (record { accepted = c.in-Ok-Some.ensures.told.0; keyed = ap is_some has_key; one_line = c.requires.one_line }) made.fits made.put made.left made.err)
+
+pub returns-clause-fits : goal.returns-clause-fits
+returns-clause-fits c =
+    let has_key : key_in Country c.args.line.now ≡ Some c.within.result.0.items = c.in-Ok-Some.ensures.told.1 ∙ ap option_copied c.in-Ok-Some.field-0-is ∙ ap Some (sym c.within.ensures) in
+    rw (← c.self.view_is)
+    (fits_after Countries c.within.result.0.items c.args.line.now c.self.inside.countries has_key c.append.result (c.self.invariant.tables Countries)
+    (record { accepted = c.in-Ok-Some.ensures.told.0; keyed = ap is_some has_key; one_line = c.requires.one_line }) c.append.ensures.fits)

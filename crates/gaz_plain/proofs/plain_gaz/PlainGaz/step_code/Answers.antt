@@ -1,0 +1,33 @@
+use Rattle.std.proofs.Common.{ap, IsSome, Some, ◌≡◌, subst, sym, ◌∙◌}
+use Rattle.std.specs.Prelude.{is_some}
+use Rattle.gaz_num.specs.declared.words.Kind.TheVariants as kind
+use Rattle.gaz_num.specs.Check.{key_in}
+use Rattle.gaz_plain.specs.Gazetteer.{Gazetteer}
+use Rattle.gaz_plain.proofs.Kept.{put_each}
+use Rattle.gaz_plain.proofs.Taken.{refused, put_taken, put_refused, put_is}
+use Rattle.gaz_plain.proofs.plain_gaz.PlainGaz.step_code.Goals as goal
+
+-- the list keeps its order
+pub invariant_of-self : goal.invariant_of-self
+invariant_of-self c =
+    let gaz : Gazetteer = record { date = c.self.inside.date; rows = c.self.inside.rows; alternates = c.self.inside.alternates; links = c.self.inside.links; countries = c.self.inside.countries; codes = c.self.inside.codes } in
+    let some : IsSome gaz.date = subst (λ (g : Gazetteer). IsSome g.date) (sym c.self.view_is) c.requires.dated in
+    let has_key : key_in kind.Code c.args.line.now ≡ Some c.within.result.0.items = c.in-Ok.ensures.told.1 ∙ ap Some (sym c.within.ensures) in
+    put_is gaz kind.Code c.args.line.now c.within.result.0.items has_key c.put.new.self c.put.result c.in-Ok.ensures.told.0 c.put.ensures.ok c.put.ensures.within c.put.ensures.err c.self.invariant some
+    (put_each kind.Code c.args.line.now (record { accepted = c.in-Ok.ensures.told.0; keyed = ap is_some has_key; one_line = c.requires.one_line }))
+
+pub returns-in-Ok-clause-ok : goal.returns-in-Ok-clause-ok
+returns-in-Ok-clause-ok c =
+    let gaz : Gazetteer = record { date = c.self.inside.date; rows = c.self.inside.rows; alternates = c.self.inside.alternates; links = c.self.inside.links; countries = c.self.inside.countries; codes = c.self.inside.codes } in
+    let has_key : key_in kind.Code c.args.line.now ≡ Some c.within.result.0.items = c.in-Ok.ensures.told.1 ∙ ap Some (sym c.within.ensures) in
+    rw (← c.self.view_is) (put_taken gaz kind.Code c.args.line.now c.within.result.0.items has_key c.put.new.self c.put.result c.in-Ok.ensures.told.0 c.put.ensures.ok c.put.ensures.within)
+
+pub returns-in-Ok-clause-fault : goal.returns-in-Ok-clause-fault
+returns-in-Ok-clause-fault c =
+    let gaz : Gazetteer = record { date = c.self.inside.date; rows = c.self.inside.rows; alternates = c.self.inside.alternates; links = c.self.inside.links; countries = c.self.inside.countries; codes = c.self.inside.codes } in
+    let has_key : key_in kind.Code c.args.line.now ≡ Some c.within.result.0.items = c.in-Ok.ensures.told.1 ∙ ap Some (sym c.within.ensures) in
+    rw (← c.self.view_is) (put_refused gaz kind.Code c.args.line.now c.within.result.0.items has_key c.put.new.self c.put.result c.in-Ok.ensures.told.0 c.put.ensures.ok c.put.ensures.within c.put.ensures.fault)
+
+-- the reason is the check's
+pub returns-in-Err-clause-fault : goal.returns-in-Err-clause-fault
+returns-in-Err-clause-fault c = refused c.args.self.now kind.Code c.args.line.now c.in-Err.reason c.in-Err.ensures.told
