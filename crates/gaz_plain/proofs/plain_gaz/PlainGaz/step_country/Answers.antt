@@ -27,7 +27,7 @@ pub returns-in-Ok-Some-clause-fault : goal.returns-in-Ok-Some-clause-fault
 returns-in-Ok-Some-clause-fault c =
     let gaz : Gazetteer = record { date = c.self.inside.date; rows = c.self.inside.rows; alternates = c.self.inside.alternates; links = c.self.inside.links; countries = c.self.inside.countries; codes = c.self.inside.codes } in
     let has_key : key_in Country c.args.line.now ≡ Some c.within.result.0.items = c.in-Ok-Some.ensures.told.1 ∙ ap option_copied c.in-Ok-Some.field-0-is ∙ ap Some (sym c.within.ensures) in
-    rw (← c.self.view_is) (put_refused gaz Country c.args.line.now c.within.result.0.items has_key c.put.new.self c.put.result c.in-Ok-Some.ensures.told.0 c.put.ensures.ok c.put.ensures.within c.put.ensures.fault)
+    rw (← c.self.view_is) (put_refused gaz Country c.args.line.now c.within.result.0.items has_key c.put.result c.in-Ok-Some.ensures.told.0 c.put.ensures.fault)
 
 -- a comment changes nothing
 pub returns-in-Ok-None-clause-ok : goal.returns-in-Ok-None-clause-ok
