@@ -7,7 +7,7 @@ use Rattle.std.proofs.lemmas.List.{append-nil, get_or_append_left, take-append-d
 use Rattle.std.proofs.Math.Seq.{drop-cons}
 use Rattle.memchr.specs.Find.{IsFirstByte, is_byte}
 use Rattle.gaz_num.specs.declared.words.Table.{Table}
-use Rattle.gaz_num.specs.declared.words.Table.TheVariants.{Rows}
+use Rattle.gaz_num.specs.declared.words.Table.TheVariants.{Rows, Alternates}
 use Rattle.gaz_num.specs.Numbers.{some_if}
 use Rattle.gaz_num.specs.Pieces.{ended_lines, all_but_last, last_if_any, if_any}
 use Rattle.gaz_lines.specs.Lines as cut
@@ -107,15 +107,19 @@ table_front t xs ys table = record {
 -- the lines of a table are read and put where they stand
 own_lines : (table : Table) (gaz : Gazetteer) → with_lines gaz table (lines_in gaz table) ≡ gaz
 own_lines Rows gaz = refl
+own_lines Alternates gaz = refl
 
 put_lines : (table : Table) (gaz : Gazetteer) (lines : List (List ℕ)) → lines_in (with_lines gaz table lines) table ≡ lines
 put_lines Rows gaz lines = refl
+put_lines Alternates gaz lines = refl
 
 put_again : (table : Table) (gaz : Gazetteer) (lines more : List (List ℕ)) → with_lines (with_lines gaz table lines) table more ≡ with_lines gaz table more
 put_again Rows gaz lines more = refl
+put_again Alternates gaz lines more = refl
 
 put_date : (table : Table) (gaz : Gazetteer) (lines : List (List ℕ)) → (with_lines gaz table lines).date ≡ gaz.date
 put_date Rows gaz lines = refl
+put_date Alternates gaz lines = refl
 
 -- What was read of a text so far: so many of its first lines stand in the table, and the rest is to be read.
 pub record UnderWay (table : Table) (count : ℕ) (text rest : List ℕ) (first now : Gazetteer) : Type 0 where
@@ -219,7 +223,7 @@ nothing_left (b ∷ rest) =
 
 -- Numbers of the tables alone.
 abbrev pub tables_only : LineCounts → Bool
-tables_only counts = (counts.alternates == 0) && (counts.links == 0) && (counts.countries == 0) && (counts.codes == 0)
+tables_only counts = (counts.links == 0) && (counts.countries == 0) && (counts.codes == 0)
 
 none_counted : (before n : ℕ) (lines : List (List ℕ)) → before + n ≤ length lines → lines_behind before n lines ≡ [] → n ≡ 0
 none_counted before n lines within none =
@@ -234,14 +238,12 @@ zero_from : (n : ℕ) → (n == 0) ≡ true → n ≡ 0
 zero_from n is = grind (arith, nat_tests)
 
 -- none but those of the tables are counted
-zeros : (counts : LineCounts) → tables_only counts ≡ true → (counts.alternates ≡ 0) × (counts.links ≡ 0) × (counts.countries ≡ 0) × (counts.codes ≡ 0)
+zeros : (counts : LineCounts) → tables_only counts ≡ true → (counts.links ≡ 0) × (counts.countries ≡ 0) × (counts.codes ≡ 0)
 zeros counts only =
-    let three = and_first ((counts.alternates == 0) && (counts.links == 0) && (counts.countries == 0)) (counts.codes == 0) only in
-    let two = and_first ((counts.alternates == 0) && (counts.links == 0)) (counts.countries == 0) three in (
-      zero_from counts.alternates (and_first (counts.alternates == 0) (counts.links == 0) two),
-      zero_from counts.links (and_second (counts.alternates == 0) (counts.links == 0) two),
-      zero_from counts.countries (and_second ((counts.alternates == 0) && (counts.links == 0)) (counts.countries == 0) three),
-      zero_from counts.codes (and_second ((counts.alternates == 0) && (counts.links == 0) && (counts.countries == 0)) (counts.codes == 0) only),
+    let two = and_first ((counts.links == 0) && (counts.countries == 0)) (counts.codes == 0) only in (
+      zero_from counts.links (and_first (counts.links == 0) (counts.countries == 0) two),
+      zero_from counts.countries (and_second (counts.links == 0) (counts.countries == 0) two),
+      zero_from counts.codes (and_second ((counts.links == 0) && (counts.countries == 0)) (counts.codes == 0) only),
     )
 
 none_behind : (before n : ℕ) (lines : List (List ℕ)) → n ≡ 0 → lines_behind before n lines ≡ []
@@ -279,20 +281,26 @@ module _ (root : PlainRoot) (text : List ℕ) where
     only_if =
         let more = gazetteer_if.no_more in
         let long = long_if in
-        let a = none_counted root.counts.rows root.counts.alternates lines (omega (arith, long)) (ap (λ (g : Gazetteer). g.alternates) more) in
         let b = none_counted (root.counts.rows + root.counts.alternates) root.counts.links lines (omega (arith, long)) (ap (λ (g : Gazetteer). g.links) more) in
         let c = none_counted (root.counts.rows + root.counts.alternates + root.counts.links) root.counts.countries lines (omega (arith, long)) (ap (λ (g : Gazetteer). g.countries) more) in
         let d = none_counted (root.counts.rows + root.counts.alternates + root.counts.links + root.counts.countries) root.counts.codes lines (omega (arith, long)) (ap (λ (g : Gazetteer). g.codes) more) in
-        rw (eq_zero root.counts.alternates a, eq_zero root.counts.links b, eq_zero root.counts.countries c, eq_zero root.counts.codes d) refl
+        rw (eq_zero root.counts.links b, eq_zero root.counts.countries c, eq_zero root.counts.codes d) refl
+
+    -- how many lines the root counts
+    counted_if : length lines ≡ root.counts.rows + root.counts.alternates
+    counted_if = let long = long_if in let zero = zeros root.counts only_if in let b = zero.0 in let c = zero.1 in let d = zero.2 in omega (arith, long, b, c, d)
 
     takes_if : can_take_all tables root.counts lines begun ≡ true
     takes_if =
-        let long = long_if in
-        let zero = zeros root.counts only_if in
-        let enough : nat_le root.counts.rows (length lines) ≡ true = (let a = zero.0 in let b = zero.1 in let c = zero.2 in let d = zero.3 in grind (arith, nat_tests)) in
+        let long = counted_if in
+        let behind = drop root.counts.rows lines in
+        let left : length behind ≡ root.counts.alternates = omega (arith, long, length-drop root.counts.rows lines) in
+        let enough : nat_le root.counts.rows (length lines) ≡ true = grind (arith, nat_tests) in
         let rows = (table_told Rows (take root.counts.rows lines)).1 (gazetteer_if.tables Rows) in
-        let none = none_left (drop root.counts.rows lines) (let a = zero.0 in let b = zero.1 in let c = zero.2 in let d = zero.3 in omega (arith, long, a, b, c, d, length-drop root.counts.rows lines)) in
-        rw (enough, rows, none) refl
+        let enough_behind : nat_le root.counts.alternates (length behind) ≡ true = grind (arith, nat_tests) in
+        let alternates = (table_told Alternates (take root.counts.alternates behind)).1 (gazetteer_if.tables Alternates) in
+        let none = none_left (drop root.counts.alternates behind) (omega (arith, left, length-drop root.counts.alternates behind)) in
+        rw (enough, rows, enough_behind, alternates, none) refl
 
   module _ (only : tables_only root.counts ≡ true) where
     taken_is : with_all_taken tables root.counts lines begun ≡ cut_by root lines
@@ -301,22 +309,31 @@ module _ (root : PlainRoot) (text : List ℕ) where
         λ i. record {
           date = Some root.day;
           rows = take root.counts.rows lines;
-          alternates = sym (none_behind root.counts.rows root.counts.alternates lines none.0) i;
-          links = sym (none_behind (root.counts.rows + root.counts.alternates) root.counts.links lines none.1) i;
-          countries = sym (none_behind (root.counts.rows + root.counts.alternates + root.counts.links) root.counts.countries lines none.2) i;
-          codes = sym (none_behind (root.counts.rows + root.counts.alternates + root.counts.links + root.counts.countries) root.counts.codes lines none.3) i;
+          alternates = lines_behind root.counts.rows root.counts.alternates lines;
+          links = sym (none_behind (root.counts.rows + root.counts.alternates) root.counts.links lines none.0) i;
+          countries = sym (none_behind (root.counts.rows + root.counts.alternates + root.counts.links) root.counts.countries lines none.1) i;
+          codes = sym (none_behind (root.counts.rows + root.counts.alternates + root.counts.links + root.counts.countries) root.counts.codes lines none.2) i;
         }
 
     fits_if : is_whole text ≡ true → can_take_all tables root.counts lines begun ≡ true → fits_root root text ≡ true
     fits_if whole all =
         let zero = zeros root.counts only in
-        let one = and_first (can_take Rows root.counts.rows lines begun) (has_no_line (drop root.counts.rows lines)) all in
-        let left = no_line_left (drop root.counts.rows lines) (and_second (can_take Rows root.counts.rows lines begun) (has_no_line (drop root.counts.rows lines)) all) in
-        let enough : nat_le root.counts.rows (length lines) ≡ true = and_first (nat_le root.counts.rows (length lines)) (is_table Rows (take root.counts.rows lines)) one in
-        let rows : is_table Rows (take root.counts.rows lines) ≡ true = and_second (nat_le root.counts.rows (length lines)) (is_table Rows (take root.counts.rows lines)) one in
-        let behind = length-drop root.counts.rows lines in
-        let same : (length lines == total root.counts) ≡ true = (let a = zero.0 in let b = zero.1 in let c = zero.2 in let d = zero.3 in grind (arith, nat_tests)) in
-        let gazetteer : is_dated_gazetteer (cut_by root lines) ≡ true = ap is_dated_gazetteer (sym taken_is) ∙ rw rows refl in
+        let behind = drop root.counts.rows lines in
+        let left = drop root.counts.alternates behind in
+        let first = can_take Rows root.counts.rows lines begun in
+        let second = can_take Alternates root.counts.alternates behind (with_taken Rows root.counts.rows lines begun) in
+        let later = and_second first (second && has_no_line left) all in
+        let rows_taken = and_first first (second && has_no_line left) all in
+        let alternates_taken = and_first second (has_no_line left) later in
+        let none = no_line_left left (and_second second (has_no_line left) later) in
+        let enough : nat_le root.counts.rows (length lines) ≡ true = and_first (nat_le root.counts.rows (length lines)) (is_table Rows (take root.counts.rows lines)) rows_taken in
+        let rows : is_table Rows (take root.counts.rows lines) ≡ true = and_second (nat_le root.counts.rows (length lines)) (is_table Rows (take root.counts.rows lines)) rows_taken in
+        let enough_behind : nat_le root.counts.alternates (length behind) ≡ true = and_first (nat_le root.counts.alternates (length behind)) (is_table Alternates (take root.counts.alternates behind)) alternates_taken in
+        let alternates : is_table Alternates (take root.counts.alternates behind) ≡ true = and_second (nat_le root.counts.alternates (length behind)) (is_table Alternates (take root.counts.alternates behind)) alternates_taken in
+        let dropped = length-drop root.counts.rows lines in
+        let dropped_behind = length-drop root.counts.alternates behind in
+        let same : (length lines == total root.counts) ≡ true = (let b = zero.0 in let c = zero.1 in let d = zero.2 in grind (arith, nat_tests)) in
+        let gazetteer : is_dated_gazetteer (cut_by root lines) ≡ true = ap is_dated_gazetteer (sym taken_is) ∙ rw (rows, alternates) refl in
         rw (whole, same) gazetteer
 
     -- the gazetteer that a root and a text stand for is that of the tables

@@ -11,10 +11,10 @@ use memchr::memchr;
 use std::alloc::{AllocError, Global};
 
 /// The tables, in the order in which their lines stand in a text.
-pub fn tables_in_text() -> [Table; 1]
+pub fn tables_in_text() -> [Table; 2]
     ensures { result ≡ tables }
 {
-    [Table::Rows]
+    [Table::Rows, Table::Alternates]
 }
 
 /// How many lines of a table are counted.
@@ -23,14 +23,15 @@ fn count_of(counts: &LineCounts, table: Table) -> u32
 {
     match table {
         Table::Rows => counts.rows,
+        Table::Alternates => counts.alternates,
     }
 }
 
 /// Whether no lines are counted but those of the tables.
 fn counts_tables_only(counts: &LineCounts) -> bool
-    ensures { result ≡ ((counts.now.alternates == 0) && (counts.now.links == 0) && (counts.now.countries == 0) && (counts.now.codes == 0)) }
+    ensures { result ≡ ((counts.now.links == 0) && (counts.now.countries == 0) && (counts.now.codes == 0)) }
 {
-    counts.alternates == 0 && counts.links == 0 && counts.countries == 0 && counts.codes == 0
+    counts.links == 0 && counts.countries == 0 && counts.codes == 0
 }
 
 /// Appends so many lines from the front of a text to a table, and answers what stands behind them. None says that there are not

@@ -125,20 +125,25 @@ pub(crate) fn fold_file<F: Shelf>(
 }
 
 /// The most files that a request reads.
-const MOST_FILES: usize = 2;
+const MOST_FILES: usize = 4;
 
 /// The files of a load, in the order in which they are read.
-fn files_of_load() -> [FileName; 1]
+fn files_of_load() -> [FileName; 2]
     ensures { result ≡ load_files }
 {
-    [FileName::Rows]
+    [FileName::Rows, FileName::Alternates]
 }
 
 /// The files of a day, in the order in which they are read.
-fn files_of_day(date: Day) -> [FileName; 2]
+fn files_of_day(date: Day) -> [FileName; 4]
     ensures { result ≡ day_files date }
 {
-    [FileName::Modifications(date), FileName::Deletes(date)]
+    [
+        FileName::Modifications(date),
+        FileName::Deletes(date),
+        FileName::AltModifications(date),
+        FileName::AltDeletes(date),
+    ]
 }
 
 /// Opens the files of a request in order, and puts their numbers to the front of `numbers`.
