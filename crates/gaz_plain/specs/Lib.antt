@@ -4,7 +4,9 @@ pub mod Fold
 pub mod Load
 pub mod Laws
 pub mod Places
+pub mod Keys
 pub mod Entries
+pub mod Lines
 pub mod Faults
 pub mod Names
 pub mod Search
