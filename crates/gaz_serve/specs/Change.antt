@@ -7,8 +7,8 @@ use Rattle.gaz_num.specs.Refusal.{Refusal, not_loaded, sequence, absent, shelf, 
 use Rattle.gaz_plain.specs.Gazetteer.{Gazetteer}
 use Rattle.gaz_plain.specs.Fold.{fold}
 use Rattle.gaz_plain.specs.Load.{Files, files_of as files_named}
-use Rattle.gaz_plain.specs.declared.plain_gaz.PlainFault.{PlainFault}
-use Rattle.gaz_plain.specs.declared.plain_gaz.PlainFault.TheVariants as plain_fault
+use Rattle.gaz_plain.specs.declared.fault.PlainFault.{PlainFault}
+use Rattle.gaz_plain.specs.declared.fault.PlainFault.TheVariants as plain_fault
 use Rattle.gaz_turns.specs.Turns.{IsReached}
 use Rattle.gaz_serve.specs.declared.change.ChangeFault.{ChangeFault}
 use Rattle.gaz_serve.specs.declared.change.ChangeFault.TheVariants.{NotLoaded, Sequence, Absent, Shelf, TooLong, Malformed, Full, Memory}
