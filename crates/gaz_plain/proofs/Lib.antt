@@ -13,3 +13,5 @@ pub mod ListLemmas
 pub mod Wanting
 pub mod Offered
 pub mod Selected
+pub mod PlacedLemmas
+pub mod PlacedNames

@@ -1,21 +1,36 @@
 -- A list of lines by its entries.
-use Rattle.std.proofs.Common.{◌≡◌, ℕ, ◌+◌, ◌<◌, ◌≤◌, Bool, true, false, List, [], ◌∷◌, ◌++◌, length, map, Some, refl, ap, ◌∙◌, arith}
+use Rattle.std.proofs.Common.{◌≡◌, ℕ, ◌+◌, ◌<◌, ◌≤◌, Bool, true, false, List, [], ◌∷◌, ◌++◌, length, map, filter, Some, refl, ap, ◌∙◌, arith}
 use Rattle.std.specs.Prelude.{Vec, vec_items, is_some, option_map, if◌then◌else◌, ◌↔◌, ◌==◌, All}
 use Rattle.std.specs.BTreeMap.{insert_entry, is_at}
 use Rattle.std.specs.List.{AllByRecursion, AllZip}
 use Rattle.std.specs.List.Sorted.{IsStrictlySortedBy}
 use Rattle.std.specs.Map.{keys_of, values_of, lookup, remove_entry}
-use Rattle.std.specs.Ordering.{is_lt, ordering_index}
+use Rattle.std.specs.Ordering.{is_lt, is_gt, ordering_index}
+use Rattle.std.proofs.lemmas.Bool.Decides.{nat_tests}
 use Rattle.std.specs.declared.cmp.Ordering.{Ordering}
 use Rattle.std.specs.declared.cmp.Ordering.TheVariants.{Less, Equal, Greater}
 use Rattle.std.proofs.lemmas.List.{length-map, length-append}
 use Rattle.std.proofs.lemmas.Map.Entries.{length-keys_of}
 use Rattle.gaz_num.specs.declared.words.Table.{Table}
-use Rattle.gaz_plain.specs.Gazetteer.{key_cmp, limit_of, line_at}
-use Rattle.gaz_plain.specs.Places.{IsKeyOf, EndsBefore, TakesBehind, with_line, without_line}
+use Rattle.gaz_plain.specs.Gazetteer.{key_of, key_cmp, limit_of, line_at}
+use Rattle.gaz_plain.specs.Places.{IsKeyOf, EndsBefore, TakesBehind, has_room, with_line, without_line}
 use Rattle.gaz_plain.specs.Entries.{lines_of, AreEntries}
 use Rattle.gaz_plain.proofs.EntryLemmas.{put_lines, put_keyed, put_length, taken_lines, taken_keyed, found_line, last_tells}
 use Rattle.gaz_plain.proofs.Grown.{put_behind}
+
+-- one line or another in its place
+pub one_length : (table : Table) (key a b : List ℕ) (lines : List (List ℕ)) → length (with_line table key a lines) ≡ length (with_line table key b lines)
+one_length table key a b lines =
+    let low = filter (λ line. is_lt (key_cmp (key_of table line) key)) lines in
+    let high = filter (λ line. is_gt (key_cmp (key_of table line) key)) lines in
+    omega (arith, length-append (low ++ a ∷ []) high, length-append (low ++ b ∷ []) high, length-append low (a ∷ []), length-append low (b ∷ []))
+
+-- with room for a line or without
+pub room_for : (table : Table) (key line : List ℕ) (lines : List (List ℕ)) → true ≡ has_room table key lines → length (with_line table key line lines) ≤ limit_of table
+room_for table key line lines is = let within : length (with_line table key [] lines) ≤ limit_of table = grind (arith, nat_tests) in omega (arith, within, one_length table key line [] lines)
+
+pub no_room_for : (table : Table) (key line : List ℕ) (lines : List (List ℕ)) → false ≡ has_room table key lines → limit_of table < length (with_line table key line lines)
+no_room_for table key line lines isnt = let past : limit_of table < length (with_line table key [] lines) = grind (arith, nat_tests) in omega (arith, past, one_length table key line [] lines)
 
 pub values_seen : {K Z : Type 0} (es : List (K × Vec ℕ Z)) → map (λ line. vec_items line) (values_of es) ≡ lines_of es
 values_seen [] = refl
@@ -45,14 +60,14 @@ module _ {K Z : Type 0} (table : Table) (cmp : K → K → Ordering) (numbers : 
     count_new absent = count_put ∙ ap (λ (test : Bool). length es + (if test then 0 else 1)) absent
 
     -- a table that is full, where no line has the key
-    pub overflows : limit_of table ≤ length es → is_some (lookup (is_at (cmp k)) es) ≡ false → limit_of table < length (with_line table (numbers k) line (lines_of es))
+    overflows : limit_of table ≤ length es → is_some (lookup (is_at (cmp k)) es) ≡ false → limit_of table < length (with_line table (numbers k) line (lines_of es))
     overflows full absent = omega (arith, full, count_new absent)
 
     -- one in which a line has it, or that isn't full
-    pub fits_over : is_some (lookup (is_at (cmp k)) es) ≡ true → length (with_line table (numbers k) line (lines_of es)) ≤ limit_of table
+    fits_over : is_some (lookup (is_at (cmp k)) es) ≡ true → length (with_line table (numbers k) line (lines_of es)) ≤ limit_of table
     fits_over there = omega (arith, are.within, count_put ∙ ap (λ (test : Bool). length es + (if test then 0 else 1)) there)
 
-    pub fits_in : length es < limit_of table → length (with_line table (numbers k) line (lines_of es)) ≤ limit_of table
+    fits_in : length es < limit_of table → length (with_line table (numbers k) line (lines_of es)) ≤ limit_of table
     fits_in room = by (is_some (lookup (is_at (cmp k)) es)) refl
       where
         by : (test : Bool) → is_some (lookup (is_at (cmp k)) es) ≡ test → length (with_line table (numbers k) line (lines_of es)) ≤ limit_of table
@@ -79,6 +94,19 @@ module _ {K Z : Type 0} (table : Table) (cmp : K → K → Ordering) (numbers : 
       pub put_behind_are : IsKeyOf table (numbers k) line → TakesBehind table (numbers k) (lines_of es) → IsStrictlySortedBy cmp (keys_of new) → AreEntries table cmp numbers new
       put_behind_are keyed takes rising =
           put_are keyed (omega (arith, takes.0, ap length (put_behind table (numbers k) line (lines_of es) takes.1), length-append (lines_of es) (line ∷ []))) rising
+
+  -- ---- whether there is room
+
+  module _ (k : K) where
+    pub room_in : length es < limit_of table → true ≡ has_room table (numbers k) (lines_of es)
+    room_in room = let within = fits_in k [] room in grind (arith, nat_tests)
+
+    pub room_at : limit_of table ≤ length es → is_some (lookup (is_at (cmp k)) es) ≡ has_room table (numbers k) (lines_of es)
+    room_at full = by (is_some (lookup (is_at (cmp k)) es)) refl
+      where
+        by : (test : Bool) → is_some (lookup (is_at (cmp k)) es) ≡ test → test ≡ has_room table (numbers k) (lines_of es)
+        by true there = let within = fits_over k [] there in grind (arith, nat_tests)
+        by false absent = let past = overflows k [] full absent in grind (arith, nat_tests)
 
   -- ---- what a removal leaves
 

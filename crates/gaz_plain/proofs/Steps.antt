@@ -37,11 +37,11 @@ key_of_put Alt line key isnt e = ap (λ k. unwrap_or k []) e
 key_of_put AltDelete line key isnt e = cc
 
 -- a line alone is found by its key
-alone : (table : Table) (line key : List ℕ) → key_of table line ≡ key → line_at table key (line ∷ []) ≡ Some line
+pub alone : (table : Table) (line key : List ℕ) → key_of table line ≡ key → line_at table key (line ∷ []) ≡ Some line
 alone table line key e = let tied : is_eq (key_cmp (key_of table line) key) ≡ true = rw e (ap is_eq (key_ties key)) in rw tied refl
 
 -- a line alone isn't found by another key
-not_alone : (table : Table) (line key wanted : List ℕ) → key_of table line ≡ key → wanted ≢ key → line_at table wanted (line ∷ []) ≡ None
+pub not_alone : (table : Table) (line key wanted : List ℕ) → key_of table line ≡ key → wanted ≢ key → line_at table wanted (line ∷ []) ≡ None
 not_alone table line key wanted e differs = by (is_eq (key_cmp (key_of table line) wanted)) refl
   where
     by : (test : Bool) → is_eq (key_cmp (key_of table line) wanted) ≡ test → line_at table wanted (line ∷ []) ≡ None

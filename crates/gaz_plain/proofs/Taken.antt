@@ -64,27 +64,24 @@ module _ (gaz : Gazetteer) (kind : Kind) (line key : List ℕ) (has_key : key_in
 
   -- ---- by what putting the line gave
 
-  module _ (new : List (List ℕ)) (result : Result (Unit {0}) PlainFault) (is : reason_against kind line ≡ None) (ok : OnOk result (new ≡ edited)) (within : length new ≤ limit_of (table_of kind)) where
+  module _ (new : List (List ℕ)) (result : Result (Unit {0}) PlainFault) (is : reason_against kind line ≡ None) (ok : OnOk result (new ≡ edited)) (within : OnOk result (length new ≤ limit_of (table_of kind))) where
     pub put_taken : OnOk result (after_line gaz kind line ≡ Ok (with_lines gaz (table_of kind) new))
-    put_taken = by result ok
+    put_taken = by result ok within
       where
-        by : (r : Result (Unit {0}) PlainFault) → OnOk r (new ≡ edited) → OnOk r (after_line gaz kind line ≡ Ok (with_lines gaz (table_of kind) new))
-        by (Ok _) same = rw same (line_taken is (rw same at within))
-        by (Err _) same = tt
-
-    pub put_refused : IfErr result (IsPutFault (table_of kind) (length edited)) → IfErr result (IsFaultOf (after_line gaz kind line))
-    put_refused put = by result put
-      where
-        by : (r : Result (Unit {0}) PlainFault) → IfErr r (IsPutFault (table_of kind) (length edited)) → IfErr r (IsFaultOf (after_line gaz kind line))
-        by (Ok _) put = tt
-        by (Err why) put = put_fault is why put
+        by : (r : Result (Unit {0}) PlainFault) → OnOk r (new ≡ edited) → OnOk r (length new ≤ limit_of (table_of kind)) → OnOk r (after_line gaz kind line ≡ Ok (with_lines gaz (table_of kind) new))
+        by (Ok _) same few = rw same (line_taken is (rw same at few))
+        by (Err _) same few = tt
 
     pub put_is : OnErr result (new ≡ lines_in gaz (table_of kind)) → IsGazetteer gaz → IsSome gaz.date → All (IsLine (kind_in (table_of kind))) (put_by kind line) → IsGazetteer (with_lines gaz (table_of kind) new)
-    put_is err gazetteer some each = by result ok err
+    put_is err gazetteer some each = by result ok within err
       where
-        by : (r : Result (Unit {0}) PlainFault) → OnOk r (new ≡ edited) → OnErr r (new ≡ lines_in gaz (table_of kind)) → IsGazetteer (with_lines gaz (table_of kind) new)
-        by (Ok _) same err = rw same (edited_is gazetteer some each (rw same at within))
-        by (Err _) same err = (lines_kept gaz.date some gaz (table_of kind) new (record { is_gazetteer = gazetteer; has_date = refl }) (rw err (gazetteer.tables (table_of kind)))).is_gazetteer
+        by : (r : Result (Unit {0}) PlainFault) → OnOk r (new ≡ edited) → OnOk r (length new ≤ limit_of (table_of kind)) → OnErr r (new ≡ lines_in gaz (table_of kind)) → IsGazetteer (with_lines gaz (table_of kind) new)
+        by (Ok _) same few err = rw same (edited_is gazetteer some each (rw same at few))
+        by (Err _) same few err = (lines_kept gaz.date some gaz (table_of kind) new (record { is_gazetteer = gazetteer; has_date = refl }) (rw err (gazetteer.tables (table_of kind)))).is_gazetteer
+
+  pub put_refused : (result : Result (Unit {0}) PlainFault) → reason_against kind line ≡ None → IfErr result (IsPutFault (table_of kind) (length edited)) → IfErr result (IsFaultOf (after_line gaz kind line))
+  put_refused (Ok _) is put = tt
+  put_refused (Err why) is put = put_fault is why put
 
   -- ---- by what taking it out gave
 

@@ -9,5 +9,6 @@ pub mod Entries
 pub mod Lines
 pub mod Faults
 pub mod Names
+pub mod Placed
 pub mod Search
 pub mod Wanted

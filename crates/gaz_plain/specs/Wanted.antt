@@ -1,5 +1,5 @@
 -- What is asked of names, with the key of the value.
-use Rattle.std.specs.Prelude.{ℕ, Bool, true, false, ◌&&◌, List, Option, nat_eq}
+use Rattle.std.specs.Prelude.{ℕ, Bool, true, false, ◌&&◌, List, Option, Some, None, nat_eq}
 use Rattle.std.specs.Str.{bytes_eq}
 use Rattle.std.specs.List.{list_any, starts_with}
 use Rattle.gaz_num.specs.Pieces.{column}
@@ -27,6 +27,11 @@ fits_own wanted lang line = list_any (fits wanted) (own_names lang line)
 -- whether an alternate is one of the place with this id, counts, and has a text that does
 abbrev pub fits_as : Wanted → Option (List ℕ) → ℕ → List ℕ → Bool
 fits_as wanted lang id alternate = (is_of id alternate && counts_in lang alternate) && fits wanted (column 4 alternate)
+
+-- whether there is an alternate and it fits
+abbrev pub fits_line : Wanted → Option (List ℕ) → ℕ → Option (List ℕ) → Bool
+fits_line wanted lang id None = false
+fits_line wanted lang id (Some alternate) = fits_as wanted lang id alternate
 
 -- whether the text of one of these alternates does that counts as a name of the place with this id
 abbrev pub fits_any : Wanted → Option (List ℕ) → ℕ → List (List ℕ) → Bool

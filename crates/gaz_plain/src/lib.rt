@@ -5,11 +5,13 @@
 //! folds are stopped and joined.
 #![tactic(auto)]
 
+mod alternates;
 mod fault;
 mod key;
 mod laws;
 mod line_list;
 mod lines;
+mod place_order;
 mod plain_gaz;
 mod wanted;
 

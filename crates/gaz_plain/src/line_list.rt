@@ -46,7 +46,7 @@ impl<K: TableKey> LineList<K> {
     ghost use Rattle.std.specs.Option.{option_copied};
     ghost use Rattle.gaz_plain.specs.Gazetteer.{limit_of, line_at};
     ghost use Rattle.gaz_plain.specs.Faults.{IsPutFault};
-    ghost use Rattle.gaz_plain.specs.Places.{IsKeyOf, TakesBehind, with_line, without_line};
+    ghost use Rattle.gaz_plain.specs.Places.{IsKeyOf, TakesBehind, has_room, with_line, without_line};
 
     pub fn new(alloc: Global) -> LineList<K>
         ensures { result ≡ [] }
@@ -116,15 +116,25 @@ impl<K: TableKey> LineList<K> {
         Ok(true)
     }
 
+    /// Whether a line with the key can be put: one has it, or the table isn't full.
+    pub fn has_room(&self, key: &K) -> bool
+        ensures { result ≡ has_room K.TABLE (K.numbers key.now) self.now }
+    {
+        if self.lines.len() < limit_of(K::TABLE) {
+            return true;
+        }
+        self.lines.contains_key(key)
+    }
+
     /// Puts the line in the place of the one with its key, or where it would stand.
     pub fn put(&mut self, key: K, line: &[u8]) -> Result<(), PlainFault>
         requires { IsKeyOf K.TABLE (K.numbers key) line.now }
         ensures ok { OnOk result (self.new ≡ with_line K.TABLE (K.numbers key) line.now self.old) }
-        ensures within { length self.new ≤ limit_of K.TABLE }
+        ensures within { OnOk result (length self.new ≤ limit_of K.TABLE) }
         ensures fault { IfErr result (IsPutFault K.TABLE (length (with_line K.TABLE (K.numbers key) line.now self.old))) }
         ensures err { OnErr result (self.new ≡ self.old) }
     {
-        if self.lines.len() >= limit_of(K::TABLE) && !self.lines.contains_key(&key) {
+        if !self.has_room(&key) {
             return Err(PlainFault::Full(K::TABLE));
         }
         self.write(key, line)?;

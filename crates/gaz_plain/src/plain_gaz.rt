@@ -8,14 +8,15 @@ ghost use Rattle.gaz_plain.specs.Search.{matches, matching_pairs, answer_pairs};
 ghost use Rattle.gaz_plain.specs.Gazetteer.{empty, dated, is_one_line, lines_in, with_lines, line_with, after_line, IsGazetteer};
 ghost use Rattle.gaz_plain.specs.Text.{is_table};
 ghost use Rattle.gaz_plain.specs.Faults.{IsFaultOf};
-ghost use Rattle.gaz_plain.specs.Wanted.{wanted_of, fits_any};
+ghost use Rattle.gaz_plain.specs.Wanted.{wanted_of};
 
 use crate::PlainFault;
-use crate::key::{AltId, RowId};
+use crate::alternates::Alternates;
+use crate::key::RowId;
 use crate::line_list::LineList;
 use crate::lines::Lines;
 use crate::wanted::Wanted;
-use gaz_alt::{Alt, check_alt, check_delete};
+use gaz_alt::{check_alt, check_delete};
 use gaz_num::{Day, Kind, Table};
 use gaz_pick::{Best, Query, first_of_more, passes};
 use gaz_row::{Row, check_row};
@@ -27,7 +28,7 @@ use std::marker::Model;
 pub struct PlainGaz {
     date: Option<Day>,
     rows: LineList<RowId>,
-    alternates: LineList<AltId>,
+    alternates: Alternates,
 }
 
 impl Model for PlainGaz {
@@ -48,7 +49,7 @@ impl PlainGaz {
         PlainGaz {
             date: None,
             rows: LineList::new(alloc),
-            alternates: LineList::new(alloc),
+            alternates: Alternates::new(alloc),
         }
     }
 
@@ -112,7 +113,7 @@ impl PlainGaz {
         ensures date { self.new.date ≡ self.old.date }
     {
         match check_alt(line) {
-            Ok(id) => self.alternates.put(AltId(id), line),
+            Ok(id) => self.alternates.put(id, line),
             Err(reason) => Err(PlainFault::Malformed(reason)),
         }
     }
@@ -127,7 +128,7 @@ impl PlainGaz {
     {
         match check_delete(line) {
             Ok(id) => {
-                self.alternates.take_out(&AltId(id));
+                self.alternates.take_out(id);
                 Ok(())
             }
             Err(reason) => Err(PlainFault::Malformed(reason)),
@@ -218,7 +219,7 @@ impl PlainGaz {
         let Ok(id) = check_alt(line) else {
             return Ok(false);
         };
-        self.alternates.append(AltId(id), line)
+        self.alternates.append(id, line)
     }
 
     /// Puts the first of the rows that match into `best`, which then has those that the answer is cut from. Memory may be
@@ -275,24 +276,8 @@ impl PlainGaz {
         if wanted.fits_own(self.rows.allocator(), query.lang, row)? {
             return Ok(true);
         }
-        self.has_alternate(wanted, query.lang, row.id())
-    }
-
-    /// Whether an alternate fits as a name of the place with this id.
-    fn has_alternate(
-        &self,
-        wanted: &Wanted,
-        lang: Option<&str>,
-        id: u32,
-    ) -> Result<bool, AllocError>
-        ensures { IfOk result (λ is. is ≡ fits_any wanted.now (option_copied lang.entry) id self.now.alternates) }
-    {
-        for line in self.alternates.lines() {
-            if wanted.fits_as(self.rows.allocator(), lang, id, &Alt::of(line))? {
-                return Ok(true);
-            }
-        }
-        Ok(false)
+        self.alternates
+            .has_name(self.rows.allocator(), wanted, query.lang, row.id())
     }
 
     /// An equal one, whose steps leave this one. A day is folded on a copy.

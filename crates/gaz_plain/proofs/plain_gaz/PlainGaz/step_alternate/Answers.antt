@@ -26,7 +26,7 @@ pub returns-in-Ok-clause-fault : goal.returns-in-Ok-clause-fault
 returns-in-Ok-clause-fault c =
     let gaz : Gazetteer = record empty { date = c.self.inside.date; rows = c.self.inside.rows; alternates = c.self.inside.alternates } in
     let has_key : key_in Alt c.args.line.now ≡ Some (c.in-Ok.id ∷ []) = keyed (column 1 c.args.line.now) c.in-Ok.id c.in-Ok.ensures.1 in
-    rw (← c.self.view_is) (put_refused gaz Alt c.args.line.now (c.in-Ok.id ∷ []) has_key c.put.new.self c.put.result c.in-Ok.ensures.0 c.put.ensures.ok c.put.ensures.within c.put.ensures.fault)
+    rw (← c.self.view_is) (put_refused gaz Alt c.args.line.now (c.in-Ok.id ∷ []) has_key c.put.result c.in-Ok.ensures.0 c.put.ensures.fault)
 
 -- the reason is the check's
 pub returns-in-Err-clause-fault : goal.returns-in-Err-clause-fault
