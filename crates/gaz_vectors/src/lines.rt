@@ -54,6 +54,24 @@ pub(crate) fn tell_row(rt: &HostRuntime, line: &[u8]) -> io::Result<()> {
     }
 }
 
+/// What the view of an accepted alternate name shows.
+fn print_alternate(rt: &HostRuntime, alternate: &Alt<'_>) -> io::Result<()> {
+    let (id, place) = (alternate.id(), alternate.place());
+    let (language, text) = (alternate.language(), alternate.text());
+    println!(rt; "{id} of {place} <{language}> <{text}>")
+}
+
+/// A line of alternate names: its columns, or the first reason against it.
+pub(crate) fn tell_alternate(rt: &HostRuntime, line: &[u8]) -> io::Result<()> {
+    match check_alt(line) {
+        Ok(_) => print_alternate(rt, &Alt::of(line)),
+        Err(reason) => {
+            let reason = reason.text();
+            println!(rt; "refused {reason}")
+        }
+    }
+}
+
 /// A line of a deletes file: its id, or the first reason against it.
 pub(crate) fn tell_delete(rt: &HostRuntime, line: &[u8]) -> io::Result<()> {
     match check_delete(line) {
