@@ -1,7 +1,10 @@
 pub mod Asked
+pub mod Chains
 pub mod Codes
 pub mod Divisions
 pub mod Examples
+pub mod Found
 pub mod Least
+pub mod Led
 pub mod Others
 pub mod Reading

@@ -30,7 +30,7 @@ another : (lists : Lists) (id : ℕ) (test : List ℕ → Bool) → IfSome (leas
 another lists id test = by_least lists id test (least_other lists id test) (least_is (may_be id test) lists.rows)
 
 -- of a list of candidates
-first_of : (P : ℕ → Type 0) (found : Option ℕ) (more : List (Option ℕ)) → IfSome found P → IfSome (first_some more) P → IfSome (first_some (found ∷ more)) P
+pub first_of : (P : ℕ → Type 0) (found : Option ℕ) (more : List (Option ℕ)) → IfSome found P → IfSome (first_some more) P → IfSome (first_some (found ∷ more)) P
 first_of P None more one rest = rest
 first_of P (Some n) more one rest = one
 

@@ -14,5 +14,5 @@ mod rule;
 pub use candidate::{leads_to_country, leads_to_division, may_be_country, may_be_division};
 pub use entity::{is_country, level};
 pub use kin::Kin;
-pub use laws::{parents_are_others, takes_least};
+pub use laws::{chains_end, parents_are_others, takes_least};
 pub use rule::parent;

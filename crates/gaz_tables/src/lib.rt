@@ -7,8 +7,10 @@
 mod code;
 mod columns;
 mod country;
+mod laws;
 mod link;
 
 pub use code::check_code;
 pub use country::{check_country, country_place};
+pub use laws::keys_compare;
 pub use link::{LinkClass, LinkKey, check_link};
