@@ -12,14 +12,14 @@ use Rattle.gaz_outside.specs.Station.{overlaid}
 use Rattle.gaz_num.specs.declared.words.Reason.{Reason}
 use Rattle.gaz_num.specs.declared.words.Reason.TheVariants.{Length}
 use Rattle.gaz_num.specs.declared.words.Table.{Table}
-use Rattle.gaz_num.specs.declared.words.Table.TheVariants.{Rows, Alternates}
+use Rattle.gaz_num.specs.declared.words.Table.TheVariants.{Rows, Alternates, Links, Countries, Codes}
 use Rattle.gaz_num.specs.declared.words.Kind.{Kind}
 use Rattle.gaz_num.specs.Numbers.{some_if}
-use Rattle.gaz_num.specs.Check.{reason_against, first_failing, tests, line_limit}
+use Rattle.gaz_num.specs.Check.{reason_against, first_failing, tests_of_text, line_limit}
 use Rattle.gaz_num.specs.Pieces.{pieces, all_but_last, last_if_any, ended_lines}
 use Rattle.gaz_lines.specs.Lines as cut
 use Rattle.gaz_lines.proofs.Pieces.{pieces_line}
-use Rattle.gaz_plain.specs.Gazetteer.{Gazetteer, IsLine, IsTable, IsGazetteer, empty, in_tables, is_one_line, kind_in, lines_in, limit_of}
+use Rattle.gaz_plain.specs.Gazetteer.{Gazetteer, IsLine, IsTable, IsGazetteer, empty, is_one_line, kind_in, lines_in, limit_of}
 use Rattle.gaz_plain.specs.Text.{lined, all_lines, text_of, has_no_line, is_dated_gazetteer}
 use Rattle.gaz_plain.proofs.TextTests.{gazetteer_told}
 use Rattle.gaz_page.specs.declared.page.Side.{Side}
@@ -141,9 +141,8 @@ cut_back side date gaz dated =
 -- the lines of a gazetteer are those of its tables
 pub all_listed : (gaz : Gazetteer) → IsGazetteer gaz → all_lines gaz ≡ lines_of tables gaz
 all_listed gaz is =
-    ap all_lines is.no_more
-    ∙ append-nil (gaz.rows ++ gaz.alternates ++ [] ++ []) ∙ append-nil (gaz.rows ++ gaz.alternates ++ []) ∙ append-nil (gaz.rows ++ gaz.alternates)
-    ∙ ap (λ (ls : List (List ℕ)). gaz.rows ++ ls) (sym (append-nil gaz.alternates))
+    one_then gaz.rows gaz.alternates gaz.links gaz.countries gaz.codes
+    ∙ ap (λ (ls : List (List ℕ)). gaz.rows ++ (gaz.alternates ++ (gaz.links ++ (gaz.countries ++ ls)))) (sym (append-nil gaz.codes))
 
 pub table_lines : (table : Table) (gaz : Gazetteer) → IsGazetteer gaz → AllByRecursion (IsLine (kind_in table)) (lines_in gaz table)
 table_lines table gaz is = let lines : IsTable table (lines_in gaz table) = is.tables table in recursion_from_All (IsLine (kind_in table)) (lines_in gaz table) lines.each
@@ -171,7 +170,7 @@ first_passes false rest h = absurd (some_none Length h)
 line_fits : (kind : Kind) (line : List ℕ) → reason_against kind line ≡ None → length line ≤ 65535
 unfolding reason_against
 line_fits kind line h =
-    let test = first_passes (nat_le (length line) line_limit) (first_failing ((_, is_utf8 line) ∷ tests kind line)) h in
+    let test = first_passes (nat_le (length line) line_limit) (first_failing (tests_of_text kind line)) h in
     grind (arith, nat_tests)
 
 pub length-lined : (kind : Kind) (lines : List (List ℕ)) → AllByRecursion (IsLine kind) lines → length (lined lines) ≤ 65536 * length lines
@@ -186,6 +185,9 @@ length-lined kind (line ∷ lines) are =
 limit_fits : (table : Table) → limit_of table ≤ 2 ^ 25
 limit_fits Rows = omega arith
 limit_fits Alternates = omega arith
+limit_fits Links = omega arith
+limit_fits Countries = omega arith
+limit_fits Codes = omega arith
 
 -- how long the text of a table may be, and that of several
 pub table_short : (table : Table) (gaz : Gazetteer) → IsGazetteer gaz → length (lined (lines_in gaz table)) ≤ 2 ^ 41
@@ -217,9 +219,6 @@ text_short gaz is =
 table_few : (table : Table) (gaz : Gazetteer) → IsGazetteer gaz → length (lines_in gaz table) < 2 ^ 32
 table_few table gaz is = let lines : IsTable table (lines_in gaz table) = is.tables table in let few = lines.within in let limit = limit_fits table in omega (arith, few, limit)
 
-none_long : (lists : Gazetteer → List (List ℕ)) (gaz : Gazetteer) → IsGazetteer gaz → lists (in_tables gaz) ≡ [] → length (lists gaz) < 2 ^ 32
-none_long lists gaz is none = let same = ap length (ap lists is.no_more ∙ none) in omega (arith, same)
-
 pub fits_page : (side : Side) (date : ℕ) (gaz : Gazetteer) → IsKept date gaz → FitsPage (root_of side date gaz)
 fits_page side date gaz kept =
     let is = kept.is_gazetteer in
@@ -229,9 +228,9 @@ fits_page side date gaz kept =
       day = kept.real;
       rows = table_few Rows gaz is;
       alternates = table_few Alternates gaz is;
-      links = none_long (λ g. g.links) gaz is refl;
-      countries = none_long (λ g. g.countries) gaz is refl;
-      codes = none_long (λ g. g.codes) gaz is refl;
+      links = table_few Links gaz is;
+      countries = table_few Countries gaz is;
+      codes = table_few Codes gaz is;
     }
 
 -- the text of a gazetteer fits its root

@@ -7,7 +7,7 @@ use Rattle.std.proofs.lemmas.List.{append-nil, get_or_append_left, take-append-d
 use Rattle.std.proofs.Math.Seq.{drop-cons}
 use Rattle.memchr.specs.Find.{IsFirstByte, is_byte}
 use Rattle.gaz_num.specs.declared.words.Table.{Table}
-use Rattle.gaz_num.specs.declared.words.Table.TheVariants.{Rows, Alternates}
+use Rattle.gaz_num.specs.declared.words.Table.TheVariants.{Rows, Alternates, Links, Countries, Codes}
 use Rattle.gaz_num.specs.Numbers.{some_if}
 use Rattle.gaz_num.specs.Pieces.{ended_lines, all_but_last, last_if_any, if_any}
 use Rattle.gaz_lines.specs.Lines as cut
@@ -108,18 +108,30 @@ table_front t xs ys table = record {
 own_lines : (table : Table) (gaz : Gazetteer) → with_lines gaz table (lines_in gaz table) ≡ gaz
 own_lines Rows gaz = refl
 own_lines Alternates gaz = refl
+own_lines Links gaz = refl
+own_lines Countries gaz = refl
+own_lines Codes gaz = refl
 
 put_lines : (table : Table) (gaz : Gazetteer) (lines : List (List ℕ)) → lines_in (with_lines gaz table lines) table ≡ lines
 put_lines Rows gaz lines = refl
 put_lines Alternates gaz lines = refl
+put_lines Links gaz lines = refl
+put_lines Countries gaz lines = refl
+put_lines Codes gaz lines = refl
 
 put_again : (table : Table) (gaz : Gazetteer) (lines more : List (List ℕ)) → with_lines (with_lines gaz table lines) table more ≡ with_lines gaz table more
 put_again Rows gaz lines more = refl
 put_again Alternates gaz lines more = refl
+put_again Links gaz lines more = refl
+put_again Countries gaz lines more = refl
+put_again Codes gaz lines more = refl
 
 put_date : (table : Table) (gaz : Gazetteer) (lines : List (List ℕ)) → (with_lines gaz table lines).date ≡ gaz.date
 put_date Rows gaz lines = refl
 put_date Alternates gaz lines = refl
+put_date Links gaz lines = refl
+put_date Countries gaz lines = refl
+put_date Codes gaz lines = refl
 
 -- What was read of a text so far: so many of its first lines stand in the table, and the rest is to be read.
 pub record UnderWay (table : Table) (count : ℕ) (text rest : List ℕ) (first now : Gazetteer) : Type 0 where
@@ -221,34 +233,6 @@ nothing_left (b ∷ rest) =
     by false x [] = refl
     by false x (y ∷ more) = and_false (has_no_line (last_if_any (y ∷ more)))
 
--- Numbers of the tables alone.
-abbrev pub tables_only : LineCounts → Bool
-tables_only counts = (counts.links == 0) && (counts.countries == 0) && (counts.codes == 0)
-
-none_counted : (before n : ℕ) (lines : List (List ℕ)) → before + n ≤ length lines → lines_behind before n lines ≡ [] → n ≡ 0
-none_counted before n lines within none =
-    let short : length (take n (drop before lines)) ≡ n = length-take-le n (drop before lines) (omega (arith, within, length-drop before lines)) in
-    let zero_long = ap length none in
-    omega (arith, short, zero_long)
-
-eq_zero : (n : ℕ) → n ≡ 0 → (n == 0) ≡ true
-eq_zero n is = grind (arith, nat_tests)
-
-zero_from : (n : ℕ) → (n == 0) ≡ true → n ≡ 0
-zero_from n is = grind (arith, nat_tests)
-
--- none but those of the tables are counted
-zeros : (counts : LineCounts) → tables_only counts ≡ true → (counts.links ≡ 0) × (counts.countries ≡ 0) × (counts.codes ≡ 0)
-zeros counts only =
-    let two = and_first ((counts.links == 0) && (counts.countries == 0)) (counts.codes == 0) only in (
-      zero_from counts.links (and_first (counts.links == 0) (counts.countries == 0) two),
-      zero_from counts.countries (and_second (counts.links == 0) (counts.countries == 0) two),
-      zero_from counts.codes (and_second ((counts.links == 0) && (counts.countries == 0)) (counts.codes == 0) only),
-    )
-
-none_behind : (before n : ℕ) (lines : List (List ℕ)) → n ≡ 0 → lines_behind before n lines ≡ []
-none_behind before n lines is = ap (λ (k : ℕ). take k (drop before lines)) is
-
 none_left : (lines : List (List ℕ)) → length lines ≡ 0 → has_no_line lines ≡ true
 none_left [] is = refl
 none_left (line ∷ lines) is = absurd (omega (arith, is))
@@ -256,6 +240,10 @@ none_left (line ∷ lines) is = absurd (omega (arith, is))
 no_line_left : (lines : List (List ℕ)) → has_no_line lines ≡ true → length lines ≡ 0
 no_line_left [] is = refl
 no_line_left (line ∷ lines) is = absurd (true≢false (sym is))
+
+-- the parts of a test of one table and of what is behind it
+parts : (a b c : Bool) → (a && b && c) ≡ true → (a ≡ true) × (b ≡ true) × (c ≡ true)
+parts a b c all = (and_first a b (and_first (a && b) c all), and_second a b (and_first (a && b) c all), and_second (a && b) c all)
 
 -- what a root says that fits a text
 module _ (root : PlainRoot) (text : List ℕ) where
@@ -265,89 +253,113 @@ module _ (root : PlainRoot) (text : List ℕ) where
   abbrev pub begun : Gazetteer
   begun = dated empty root.day
 
-  module _ (fits : fits_root root text ≡ true) where
-    whole_if : is_whole text ≡ true
-    whole_if = and_first (is_whole text) (length lines == total root.counts) (and_first (is_whole text && (length lines == total root.counts)) (is_dated_gazetteer (cut_by root lines)) fits)
+  abbrev numbers : LineCounts
+  numbers = root.counts
 
-    long_if : length lines ≡ total root.counts
-    long_if =
-        let same : (length lines == total root.counts) ≡ true = and_second (is_whole text) (length lines == total root.counts) (and_first (is_whole text && (length lines == total root.counts)) (is_dated_gazetteer (cut_by root lines)) fits) in
-        grind (arith, nat_tests)
+  -- the lines behind those of the first table, behind those of the first two, and so on
+  abbrev behind1 : List (List ℕ)
+  behind1 = drop numbers.rows lines
+
+  abbrev behind2 : List (List ℕ)
+  behind2 = drop numbers.alternates behind1
+
+  abbrev behind3 : List (List ℕ)
+  behind3 = drop numbers.links behind2
+
+  abbrev behind4 : List (List ℕ)
+  behind4 = drop numbers.countries behind3
+
+  abbrev behind5 : List (List ℕ)
+  behind5 = drop numbers.codes behind4
+
+  two_behind : behind2 ≡ drop (numbers.rows + numbers.alternates) lines
+  two_behind = drop-drop numbers.alternates numbers.rows lines
+
+  three_behind : behind3 ≡ drop (numbers.rows + numbers.alternates + numbers.links) lines
+  three_behind = ap (drop numbers.links) two_behind ∙ drop-drop numbers.links (numbers.rows + numbers.alternates) lines
+
+  four_behind : behind4 ≡ drop (numbers.rows + numbers.alternates + numbers.links + numbers.countries) lines
+  four_behind = ap (drop numbers.countries) three_behind ∙ drop-drop numbers.countries (numbers.rows + numbers.alternates + numbers.links) lines
+
+  taken_is : with_all_taken tables numbers lines begun ≡ cut_by root lines
+  taken_is = λ i. record {
+    date = Some root.day;
+    rows = take numbers.rows lines;
+    alternates = take numbers.alternates behind1;
+    links = take numbers.links (two_behind i);
+    countries = take numbers.countries (three_behind i);
+    codes = take numbers.codes (four_behind i);
+  }
+
+  module _ (fits : fits_root root text ≡ true) where
+    fits_parts : (is_whole text ≡ true) × ((length lines == total numbers) ≡ true) × (is_dated_gazetteer (cut_by root lines) ≡ true)
+    fits_parts = parts (is_whole text) (length lines == total numbers) (is_dated_gazetteer (cut_by root lines)) fits
+
+    whole_if : is_whole text ≡ true
+    whole_if = fits_parts.0
+
+    long_if : length lines ≡ total numbers
+    long_if = let same = fits_parts.1 in grind (arith, nat_tests)
 
     pub gazetteer_if : IsGazetteer (cut_by root lines)
-    gazetteer_if = ((gazetteer_told (cut_by root lines)).0 (and_second (is_whole text && (length lines == total root.counts)) (is_dated_gazetteer (cut_by root lines)) fits)).1
+    gazetteer_if = ((gazetteer_told (cut_by root lines)).0 fits_parts.2).1
 
-    only_if : tables_only root.counts ≡ true
-    only_if =
-        let more = gazetteer_if.no_more in
-        let long = long_if in
-        let b = none_counted (root.counts.rows + root.counts.alternates) root.counts.links lines (omega (arith, long)) (ap (λ (g : Gazetteer). g.links) more) in
-        let c = none_counted (root.counts.rows + root.counts.alternates + root.counts.links) root.counts.countries lines (omega (arith, long)) (ap (λ (g : Gazetteer). g.countries) more) in
-        let d = none_counted (root.counts.rows + root.counts.alternates + root.counts.links + root.counts.countries) root.counts.codes lines (omega (arith, long)) (ap (λ (g : Gazetteer). g.codes) more) in
-        rw (eq_zero root.counts.links b, eq_zero root.counts.countries c, eq_zero root.counts.codes d) refl
-
-    -- how many lines the root counts
-    counted_if : length lines ≡ root.counts.rows + root.counts.alternates
-    counted_if = let long = long_if in let zero = zeros root.counts only_if in let b = zero.0 in let c = zero.1 in let d = zero.2 in omega (arith, long, b, c, d)
-
-    takes_if : can_take_all tables root.counts lines begun ≡ true
+    takes_if : can_take_all tables numbers lines begun ≡ true
     takes_if =
-        let long = counted_if in
-        let behind = drop root.counts.rows lines in
-        let left : length behind ≡ root.counts.alternates = omega (arith, long, length-drop root.counts.rows lines) in
-        let enough : nat_le root.counts.rows (length lines) ≡ true = grind (arith, nat_tests) in
-        let rows = (table_told Rows (take root.counts.rows lines)).1 (gazetteer_if.tables Rows) in
-        let enough_behind : nat_le root.counts.alternates (length behind) ≡ true = grind (arith, nat_tests) in
-        let alternates = (table_told Alternates (take root.counts.alternates behind)).1 (gazetteer_if.tables Alternates) in
-        let none = none_left (drop root.counts.alternates behind) (omega (arith, left, length-drop root.counts.alternates behind)) in
-        rw (enough, rows, enough_behind, alternates, none) refl
+        let long = long_if in
+        let long1 : length behind1 ≡ numbers.alternates + numbers.links + numbers.countries + numbers.codes = omega (arith, long, length-drop numbers.rows lines) in
+        let long2 : length behind2 ≡ numbers.links + numbers.countries + numbers.codes = omega (arith, long1, length-drop numbers.alternates behind1) in
+        let long3 : length behind3 ≡ numbers.countries + numbers.codes = omega (arith, long2, length-drop numbers.links behind2) in
+        let long4 : length behind4 ≡ numbers.codes = omega (arith, long3, length-drop numbers.countries behind3) in
+        let enough : nat_le numbers.rows (length lines) ≡ true = grind (arith, nat_tests) in
+        let enough1 : nat_le numbers.alternates (length behind1) ≡ true = grind (arith, nat_tests) in
+        let enough2 : nat_le numbers.links (length behind2) ≡ true = grind (arith, nat_tests) in
+        let enough3 : nat_le numbers.countries (length behind3) ≡ true = grind (arith, nat_tests) in
+        let enough4 : nat_le numbers.codes (length behind4) ≡ true = grind (arith, nat_tests) in
+        let is = gazetteer_if in
+        let rows = (table_told Rows (take numbers.rows lines)).1 (is.tables Rows) in
+        let alternates = (table_told Alternates (take numbers.alternates behind1)).1 (is.tables Alternates) in
+        let links = (table_told Links (take numbers.links behind2)).1 (subst (λ (ls : List (List ℕ)). IsTable Links (take numbers.links ls)) (sym two_behind) (is.tables Links)) in
+        let countries = (table_told Countries (take numbers.countries behind3)).1 (subst (λ (ls : List (List ℕ)). IsTable Countries (take numbers.countries ls)) (sym three_behind) (is.tables Countries)) in
+        let code_lines = (table_told Codes (take numbers.codes behind4)).1 (subst (λ (ls : List (List ℕ)). IsTable Codes (take numbers.codes ls)) (sym four_behind) (is.tables Codes)) in
+        let none = none_left behind5 (omega (arith, long4, length-drop numbers.codes behind4)) in
+        rw (enough, rows, enough1, alternates, enough2, links, enough3, countries, enough4, code_lines, none) refl
 
-  module _ (only : tables_only root.counts ≡ true) where
-    taken_is : with_all_taken tables root.counts lines begun ≡ cut_by root lines
-    taken_is =
-        let none = zeros root.counts only in
-        λ i. record {
-          date = Some root.day;
-          rows = take root.counts.rows lines;
-          alternates = lines_behind root.counts.rows root.counts.alternates lines;
-          links = sym (none_behind (root.counts.rows + root.counts.alternates) root.counts.links lines none.0) i;
-          countries = sym (none_behind (root.counts.rows + root.counts.alternates + root.counts.links) root.counts.countries lines none.1) i;
-          codes = sym (none_behind (root.counts.rows + root.counts.alternates + root.counts.links + root.counts.countries) root.counts.codes lines none.2) i;
-        }
+  fits_if : is_whole text ≡ true → can_take_all tables numbers lines begun ≡ true → fits_root root text ≡ true
+  fits_if whole all =
+      let last = has_no_line behind5 in
+      let fifth = nat_le numbers.codes (length behind4) && is_table Codes (take numbers.codes behind4) && last in
+      let fourth = nat_le numbers.countries (length behind3) && is_table Countries (take numbers.countries behind3) && fifth in
+      let third = nat_le numbers.links (length behind2) && is_table Links (take numbers.links behind2) && fourth in
+      let second = nat_le numbers.alternates (length behind1) && is_table Alternates (take numbers.alternates behind1) && third in
+      let one = parts (nat_le numbers.rows (length lines)) (is_table Rows (take numbers.rows lines)) second all in
+      let two = parts (nat_le numbers.alternates (length behind1)) (is_table Alternates (take numbers.alternates behind1)) third one.2 in
+      let three = parts (nat_le numbers.links (length behind2)) (is_table Links (take numbers.links behind2)) fourth two.2 in
+      let four = parts (nat_le numbers.countries (length behind3)) (is_table Countries (take numbers.countries behind3)) fifth three.2 in
+      let five = parts (nat_le numbers.codes (length behind4)) (is_table Codes (take numbers.codes behind4)) last four.2 in
+      let long : length lines ≡ total numbers = counted_long one.0 two.0 three.0 four.0 five.0 five.2 in
+      let same : (length lines == total numbers) ≡ true = grind (arith, nat_tests) in
+      let gazetteer : is_dated_gazetteer (cut_by root lines) ≡ true = ap is_dated_gazetteer (sym taken_is) ∙ rw (one.1, two.1, three.1, four.1, five.1) refl in
+      rw (whole, same) gazetteer
+    where
+      counted_long : nat_le numbers.rows (length lines) ≡ true → nat_le numbers.alternates (length behind1) ≡ true → nat_le numbers.links (length behind2) ≡ true → nat_le numbers.countries (length behind3) ≡ true → nat_le numbers.codes (length behind4) ≡ true → has_no_line behind5 ≡ true → length lines ≡ total numbers
+      counted_long e e1 e2 e3 e4 none =
+          let most : numbers.rows ≤ length lines = grind (arith, nat_tests) in
+          let most1 : numbers.alternates ≤ length behind1 = grind (arith, nat_tests) in
+          let most2 : numbers.links ≤ length behind2 = grind (arith, nat_tests) in
+          let most3 : numbers.countries ≤ length behind3 = grind (arith, nat_tests) in
+          let most4 : numbers.codes ≤ length behind4 = grind (arith, nat_tests) in
+          let left = no_line_left behind5 none in
+          omega (arith, most, most1, most2, most3, most4, left, length-drop numbers.rows lines, length-drop numbers.alternates behind1, length-drop numbers.links behind2, length-drop numbers.countries behind3, length-drop numbers.codes behind4)
 
-    fits_if : is_whole text ≡ true → can_take_all tables root.counts lines begun ≡ true → fits_root root text ≡ true
-    fits_if whole all =
-        let zero = zeros root.counts only in
-        let behind = drop root.counts.rows lines in
-        let left = drop root.counts.alternates behind in
-        let first = can_take Rows root.counts.rows lines begun in
-        let second = can_take Alternates root.counts.alternates behind (with_taken Rows root.counts.rows lines begun) in
-        let later = and_second first (second && has_no_line left) all in
-        let rows_taken = and_first first (second && has_no_line left) all in
-        let alternates_taken = and_first second (has_no_line left) later in
-        let none = no_line_left left (and_second second (has_no_line left) later) in
-        let enough : nat_le root.counts.rows (length lines) ≡ true = and_first (nat_le root.counts.rows (length lines)) (is_table Rows (take root.counts.rows lines)) rows_taken in
-        let rows : is_table Rows (take root.counts.rows lines) ≡ true = and_second (nat_le root.counts.rows (length lines)) (is_table Rows (take root.counts.rows lines)) rows_taken in
-        let enough_behind : nat_le root.counts.alternates (length behind) ≡ true = and_first (nat_le root.counts.alternates (length behind)) (is_table Alternates (take root.counts.alternates behind)) alternates_taken in
-        let alternates : is_table Alternates (take root.counts.alternates behind) ≡ true = and_second (nat_le root.counts.alternates (length behind)) (is_table Alternates (take root.counts.alternates behind)) alternates_taken in
-        let dropped = length-drop root.counts.rows lines in
-        let dropped_behind = length-drop root.counts.alternates behind in
-        let same : (length lines == total root.counts) ≡ true = (let b = zero.0 in let c = zero.1 in let d = zero.2 in grind (arith, nat_tests)) in
-        let gazetteer : is_dated_gazetteer (cut_by root lines) ≡ true = ap is_dated_gazetteer (sym taken_is) ∙ rw (rows, alternates) refl in
-        rw (whole, same) gazetteer
-
-    -- the gazetteer that a root and a text stand for is that of the tables
-    pub gaz_by : gaz_of root text ≡ some_if (is_whole text && can_take_all tables root.counts lines begun) (with_all_taken tables root.counts lines begun)
-    gaz_by =
-        let fits : fits_root root text ≡ (is_whole text && can_take_all tables root.counts lines begun) =
-        by_test (fits_root root text) (is_whole text && can_take_all tables root.counts lines begun)
-        (λ h. rw (whole_if h, takes_if h) refl)
-        (λ h. fits_if (and_first (is_whole text) (can_take_all tables root.counts lines begun) h) (and_second (is_whole text) (can_take_all tables root.counts lines begun) h)) in
-        λ i. some_if (fits i) (sym taken_is i)
-
-  -- a root that counts others names no gazetteer
-  pub none_if_others : tables_only root.counts ≡ false → None ≡ gaz_of root text
-  none_if_others others = ap (λ (b : Bool). some_if b (cut_by root lines)) (sym (not_true (fits_root root text) (λ fits. true≢false (sym (only_if fits) ∙ others))))
+  -- the gazetteer that a root and a text stand for is that of the tables
+  pub gaz_by : gaz_of root text ≡ some_if (is_whole text && can_take_all tables numbers lines begun) (with_all_taken tables numbers lines begun)
+  gaz_by =
+      let fits : fits_root root text ≡ (is_whole text && can_take_all tables numbers lines begun) =
+      by_test (fits_root root text) (is_whole text && can_take_all tables numbers lines begun)
+      (λ h. rw (whole_if h, takes_if h) refl)
+      (λ h. fits_if (and_first (is_whole text) (can_take_all tables numbers lines begun) h) (and_second (is_whole text) (can_take_all tables numbers lines begun) h)) in
+      λ i. some_if (fits i) (sym taken_is i)
 
 -- What was read of the tables so far: those that are left are read of the rest as all are of the text.
 pub record Parsing (left all : List Table) (counts : LineCounts) (text rest : List ℕ) (first now : Gazetteer) : Type 0 where
@@ -385,9 +397,9 @@ pub parsed_all : (all : List Table) (counts : LineCounts) (text rest : List ℕ)
 parsed_all all counts text rest first now way = nothing_left rest ∙ λ i. way.whole i && way.fits i
 
 -- all tables were read of the text of a root
-module _ (root : PlainRoot) (text rest : List ℕ) (now : Gazetteer) (only : tables_only root.counts ≡ true) (way : Parsing [] tables root.counts text rest (dated empty root.day) now) where
+module _ (root : PlainRoot) (text rest : List ℕ) (now : Gazetteer) (way : Parsing [] tables root.counts text rest (dated empty root.day) now) where
   by_rest : gaz_of root text ≡ some_if (length rest == 0) now
-  by_rest = gaz_by root text only ∙ λ i. some_if (sym (parsed_all tables root.counts text rest (dated empty root.day) now way) i) (sym way.gaz i)
+  by_rest = gaz_by root text ∙ λ i. some_if (sym (parsed_all tables root.counts text rest (dated empty root.day) now way) i) (sym way.gaz i)
 
   -- nothing is left
   pub some_if_all : true ≡ (length rest == 0) → Some now ≡ gaz_of root text
@@ -398,9 +410,9 @@ module _ (root : PlainRoot) (text rest : List ℕ) (now : Gazetteer) (only : tab
   none_if_left some = ap (λ (b : Bool). some_if b now) some ∙ sym by_rest
 
 -- a table can't be read of the text of a root
-pub none_if_unfit : (root : PlainRoot) (text : List ℕ) → tables_only root.counts ≡ true → can_take_all tables root.counts (ended_lines text) (dated empty root.day) ≡ false → None ≡ gaz_of root text
-none_if_unfit root text only unfit =
-    sym (gaz_by root text only ∙ ap (λ (b : Bool). some_if (is_whole text && b) (with_all_taken tables root.counts (ended_lines text) (dated empty root.day))) unfit
+pub none_if_unfit : (root : PlainRoot) (text : List ℕ) → can_take_all tables root.counts (ended_lines text) (dated empty root.day) ≡ false → None ≡ gaz_of root text
+none_if_unfit root text unfit =
+    sym (gaz_by root text ∙ ap (λ (b : Bool). some_if (is_whole text && b) (with_all_taken tables root.counts (ended_lines text) (dated empty root.day))) unfit
     ∙ ap (λ (b : Bool). some_if b (with_all_taken tables root.counts (ended_lines text) (dated empty root.day))) (sym (and_false (is_whole text))))
 
 -- A split at the first LF, and what stands behind it.

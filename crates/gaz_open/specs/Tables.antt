@@ -1,7 +1,7 @@
 -- The tables of a text, one behind the other.
 use Rattle.std.specs.Prelude.{◌≡◌, ℕ, Bool, true, ◌&&◌, nat_le, List, [], ◌∷◌, ◌++◌, length, take, drop}
 use Rattle.gaz_num.specs.declared.words.Table.{Table}
-use Rattle.gaz_num.specs.declared.words.Table.TheVariants.{Rows, Alternates}
+use Rattle.gaz_num.specs.declared.words.Table.TheVariants.{Rows, Alternates, Links, Countries, Codes}
 use Rattle.gaz_num.specs.Pieces.{ended_lines}
 use Rattle.gaz_plain.specs.Gazetteer.{Gazetteer, lines_in, with_lines}
 use Rattle.gaz_plain.specs.Text.{is_table, has_no_line}
@@ -10,7 +10,7 @@ use Rattle.gaz_open.specs.Content.{is_whole}
 
 -- the tables, in the order in which their lines stand in a text
 abbrev pub tables : List Table
-tables = Rows ∷ Alternates ∷ []
+tables = Rows ∷ Alternates ∷ Links ∷ Countries ∷ Codes ∷ []
 
 -- the lines of tables, one table after another
 abbrev pub lines_of : List Table → Gazetteer → List (List ℕ)
@@ -21,6 +21,9 @@ lines_of (table ∷ others) gaz = lines_in gaz table ++ lines_of others gaz
 abbrev pub counted : LineCounts → Table → ℕ
 counted counts Rows = counts.rows
 counted counts Alternates = counts.alternates
+counted counts Links = counts.links
+counted counts Countries = counts.countries
+counted counts Codes = counts.codes
 
 -- whether there are so many lines, and they are a table behind those that the gazetteer has
 abbrev pub can_take : Table → ℕ → List (List ℕ) → Gazetteer → Bool

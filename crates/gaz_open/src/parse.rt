@@ -1,5 +1,5 @@
 //! The gazetteer of a root page and a text.
-ghost use Rattle.std.specs.Prelude.{◌≡◌, ◌&&◌, ◌==◌, true, false, IsSome, IfOk, MatchOption};
+ghost use Rattle.std.specs.Prelude.{◌≡◌, true, false, IsSome, IfOk, MatchOption};
 ghost use Rattle.gaz_num.specs.Pieces.{ended_lines};
 ghost use Rattle.gaz_open.specs.Content.{gaz_of};
 ghost use Rattle.gaz_open.specs.Tables.{tables, counted, can_take, Takes};
@@ -11,10 +11,16 @@ use memchr::memchr;
 use std::alloc::{AllocError, Global};
 
 /// The tables, in the order in which their lines stand in a text.
-pub fn tables_in_text() -> [Table; 2]
+pub fn tables_in_text() -> [Table; 5]
     ensures { result ≡ tables }
 {
-    [Table::Rows, Table::Alternates]
+    [
+        Table::Rows,
+        Table::Alternates,
+        Table::Links,
+        Table::Countries,
+        Table::Codes,
+    ]
 }
 
 /// How many lines of a table are counted.
@@ -24,14 +30,10 @@ fn count_of(counts: &LineCounts, table: Table) -> u32
     match table {
         Table::Rows => counts.rows,
         Table::Alternates => counts.alternates,
+        Table::Links => counts.links,
+        Table::Countries => counts.countries,
+        Table::Codes => counts.codes,
     }
-}
-
-/// Whether no lines are counted but those of the tables.
-fn counts_tables_only(counts: &LineCounts) -> bool
-    ensures { result ≡ ((counts.now.links == 0) && (counts.now.countries == 0) && (counts.now.codes == 0)) }
-{
-    counts.links == 0 && counts.countries == 0 && counts.codes == 0
 }
 
 /// Appends so many lines from the front of a text to a table, and answers what stands behind them. None says that there are not
@@ -69,9 +71,6 @@ pub(crate) fn read_gazetteer(
 ) -> Result<Option<PlainGaz>, AllocError>
     ensures { IfOk result (λ found. found ≡ gaz_of root.now text.now) }
 {
-    if !counts_tables_only(&root.counts) {
-        return Ok(None);
-    }
     let mut gaz = PlainGaz::new(alloc);
     gaz.set_date(root.day);
     let mut rest = text;

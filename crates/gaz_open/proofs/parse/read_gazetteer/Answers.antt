@@ -4,8 +4,8 @@ use Rattle.gaz_num.specs.declared.words.Table.{Table}
 use Rattle.gaz_num.specs.declared.words.Table.TheVariants.{Rows}
 use Rattle.gaz_num.specs.Pieces.{ended_lines}
 use Rattle.gaz_plain.specs.Gazetteer.{dated, empty}
-use Rattle.gaz_open.specs.Tables.{tables, can_take}
-use Rattle.gaz_open.proofs.Parsed.{Parsing, none_if_left, none_if_unfit, parsed_none, next_table}
+use Rattle.gaz_open.specs.Tables.{tables, can_take, Takes}
+use Rattle.gaz_open.proofs.Parsed.{Parsing, none_if_left, none_if_unfit, some_if_all, parsed_one, parsed_none, next_table}
 use Rattle.gaz_open.proofs.parse.read_gazetteer.Goals as goal
 
 pub returns-else-is_empty : goal.returns-else-is_empty
@@ -13,7 +13,7 @@ returns-else-is_empty c =
     let root = c.args.root.now in
     let none = drop_all c.loop-table.table-index c.tables_in_text.result (let past = c.loop-table-test.false in omega (arith, past)) in
     let way = subst (λ (left : List Table). Parsing left tables root.counts c.args.text.now c.loop-table.rest.now (dated empty root.day) c.loop-table.gaz) none c.loop-table.invariant in
-    none_if_left root c.args.text.now c.loop-table.rest.now c.loop-table.gaz (sym c.counts_tables_only.ensures ∙ c.if-not-counts_tables_only.false) way (sym c.if-is_empty.false ∙ c.is_empty.ensures)
+    none_if_left root c.args.text.now c.loop-table.rest.now c.loop-table.gaz way (sym c.if-is_empty.false ∙ c.is_empty.ensures)
 
 -- a table can't be read
 pub returns-in-None : goal.returns-in-None
@@ -24,6 +24,26 @@ returns-in-None c =
     let table = get_or items place Rows in
     let way = subst (λ (left : List Table). Parsing left tables root.counts c.args.text.now c.loop-table.rest.now (dated empty root.day) c.loop-table.gaz) (next_table place items Rows (let long = ap length c.tables_in_text.ensures in let below = c.loop-table-test.true in omega (arith, below, long))) c.loop-table.invariant in
     let unfit = rw c.in-None.is at c.in_ok-behind.ensures.taken in
-    none_if_unfit root c.args.text.now (sym c.counts_tables_only.ensures ∙ c.if-not-counts_tables_only.false)
+    none_if_unfit root c.args.text.now
     (parsed_none table (drop (place + 1) items) tables root.counts c.args.text.now c.loop-table.rest.now (dated empty root.day) c.loop-table.gaz way
     (ap (λ (count : ℕ). can_take table count (ended_lines c.loop-table.rest.now) c.loop-table.gaz) (sym c.count_of-count.ensures) ∙ unfit))
+
+-- one more was read
+pub loop-table-preserved : goal.loop-table-preserved
+loop-table-preserved c =
+    let root = c.args.root.now in
+    let items = c.tables_in_text.result in
+    let place = c.loop-table.table-index in
+    let table = get_or items place Rows in
+    let way = subst (λ (left : List Table). Parsing left tables root.counts c.args.text.now c.loop-table.rest.now (dated empty root.day) c.loop-table.gaz) (next_table place items Rows (let long = ap length c.tables_in_text.ensures in let below = c.loop-table-test.true in omega (arith, below, long))) c.loop-table.invariant in
+    let taken = rw c.in-Some.is at c.in_ok-behind.ensures.taken in
+    let takes = subst (λ (count : ℕ). Takes table count c.loop-table.rest.now c.in-Some.behind.now c.loop-table.gaz c.append_lines.new.gaz) c.count_of-count.ensures taken in
+    parsed_one table (drop (place + 1) items) tables root.counts c.args.text.now c.loop-table.rest.now c.in-Some.behind.now (dated empty root.day) c.loop-table.gaz c.append_lines.new.gaz way takes
+
+-- all were read, and nothing is left
+pub returns-then-is_empty : goal.returns-then-is_empty
+returns-then-is_empty c =
+    let root = c.args.root.now in
+    let none = drop_all c.loop-table.table-index c.tables_in_text.result (let past = c.loop-table-test.false in omega (arith, past)) in
+    let way = subst (λ (left : List Table). Parsing left tables root.counts c.args.text.now c.loop-table.rest.now (dated empty root.day) c.loop-table.gaz) none c.loop-table.invariant in
+    some_if_all root c.args.text.now c.loop-table.rest.now c.loop-table.gaz way (sym c.if-is_empty.true ∙ c.is_empty.ensures)
