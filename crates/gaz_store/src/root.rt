@@ -23,9 +23,9 @@ fn root_for(side: Side, day: Day, gaz: &PlainGaz) -> PlainRoot
         counts: LineCounts {
             rows: gaz.count(Table::Rows),
             alternates: gaz.count(Table::Alternates),
-            links: 0,
-            countries: 0,
-            codes: 0,
+            links: gaz.count(Table::Links),
+            countries: gaz.count(Table::Countries),
+            codes: gaz.count(Table::Codes),
         },
     }
 }
