@@ -1,11 +1,12 @@
 -- Each reply is whole lines, of which one is an acknowledgement where the reply tells a change, and none else.
 use Rattle.std.proofs.Common.{◌≡◌, ℕ, suc, Bool, true, false, ◌||◌, cond, true≢false, List, [], ◌∷◌, ◌++◌, length, refl, sym, ◌∙◌, ap, arith, Option, Some, None}
-use Rattle.std.specs.Prelude.{⊤, codes, decimal, count_by, is_some, is_none, Result, Ok, Err, ok_or, option_to_list, find, if◌then◌else◌, ◌==◌}
+use Rattle.std.specs.Prelude.{⊤, codes, decimal, count_by, is_some, is_none, Result, Ok, Err, ok_or, option_to_list, find, reverse, if◌then◌else◌, ◌==◌}
 use Rattle.std.specs.List.{AllByRecursion, cons_option}
 use Rattle.gaz_num.specs.declared.words.Reason.{Reason}
 use Rattle.gaz_num.specs.declared.words.Reason.TheVariants.{Length, Utf8, Columns, Id, Latitude, Longitude, Population, Elevation, Dem, Date}
+use Rattle.gaz_num.specs.declared.words.Reason.TheVariants as reason_of
 use Rattle.gaz_num.specs.declared.words.FileName.{FileName}
-use Rattle.gaz_num.specs.declared.words.FileName.TheVariants.{Input, Rows, Alternates, Modifications, Deletes, AltModifications, AltDeletes}
+use Rattle.gaz_num.specs.declared.words.FileName.TheVariants.{Input, Rows, Alternates, Links, Countries, Admin1, Admin2, Modifications, Deletes, AltModifications, AltDeletes}
 use Rattle.gaz_num.specs.declared.words.Table.{Table}
 use Rattle.gaz_num.specs.declared.words.Table.TheVariants as table_of_name
 use Rattle.gaz_num.specs.Dates.{day_in, date_text}
@@ -17,13 +18,14 @@ use Rattle.gaz_plain.specs.Gazetteer.{LineFault, after_line}
 use Rattle.gaz_plain.specs.Gazetteer as fault_of_line
 use Rattle.gaz_pick.specs.Order.{Pair}
 use Rattle.gaz_plain.specs.Search.{answer_pairs, rows_at, search_of}
+use Rattle.gaz_plain.specs.Kin.{chain_of, rows_with, hierarchy_of, children_pairs, children_of}
 use Rattle.gaz_plain.specs.Fold as met
 use Rattle.gaz_plain.specs.Fold.{File, Item, items_in, in_place, after_item, after_items, fold}
 use Rattle.gaz_plain.specs.Load.{Files, files_of, load_files, day_files, load, day, in_sequence}
 use Rattle.gaz_words.specs.declared.parameter.Parameter.{Parameter}
 use Rattle.gaz_words.specs.declared.parameter.Parameter.TheVariants as parameter_of
 use Rattle.gaz_words.specs.Search.{parameter_name}
-use Rattle.gaz_words.specs.Grammar.{RequestAsked, asks_load, asks_day, asks_get, asks_search}
+use Rattle.gaz_words.specs.Grammar.{RequestAsked, asks_load, asks_day, asks_get, asks_search, asks_children, asks_chain, asks_admin}
 use Rattle.gaz_words.specs.declared.request.BadRequest.{BadRequest}
 use Rattle.gaz_words.specs.declared.request.BadRequest.TheVariants as bad_of
 use Rattle.gaz_words.specs.Grammar.{request_in, bad_word}
@@ -32,8 +34,9 @@ use Rattle.gaz_reply.specs.declared.reply.Done.{Done}
 use Rattle.gaz_reply.specs.declared.reply.Done.TheVariants as done_of
 use Rattle.gaz_reply.specs.Reply.{Reply, done, rows, refused, reply_lines, is_change, is_ack, refusal_words, spaced}
 use Rattle.gaz_turns.specs.Head.{IsStored}
-use Rattle.gaz_turns.specs.Turns.{State, Verdict, plain, memory, shelf, answer_to_read, answer_by, changed}
+use Rattle.gaz_turns.specs.Turns.{State, Verdict, plain, memory, shelf, if_loaded, answer_to_read, answer_by, changed}
 use Rattle.gaz_num.proofs.DateTextLemmas.{written_again}
+use Rattle.gaz_turns.proofs.Stored.{AreStored}
 use Rattle.gaz_turns.proofs.Counted.{IsOneLine, count_one, count_both, count_none}
 use Rattle.gaz_turns.proofs.Marks.{words_line, date_line, decimal_line, no_byte_both, tab_no_ack, count_no_ack}
 
@@ -111,6 +114,10 @@ file_line : (file : FileName) → IsOneLine (file_text file)
 file_line Input = refl
 file_line Rows = refl
 file_line Alternates = refl
+file_line Links = refl
+file_line Countries = refl
+file_line Admin1 = refl
+file_line Admin2 = refl
 file_line (Modifications date) = daily_line (codes "modifications-") date refl
 file_line (Deletes date) = daily_line (codes "deletes-") date refl
 file_line (AltModifications date) = daily_line (codes "alternateNamesModifications-") date refl
@@ -127,10 +134,14 @@ reason_line Population = refl
 reason_line Elevation = refl
 reason_line Dem = refl
 reason_line Date = refl
+reason_line reason_of.Code = refl
 
 table_line : (table : Table) → IsOneLine (table_text table)
 table_line table_of_name.Rows = refl
 table_line table_of_name.Alternates = refl
+table_line table_of_name.Links = refl
+table_line table_of_name.Countries = refl
+table_line table_of_name.Codes = refl
 
 absent_line : (file : FileName) → IsLine (refusal.absent file)
 absent_line file = words_line (codes "refused" ∷ codes "absent" ∷ file_text file ∷ []) (refl, (refl, (file_line file, tt)))
@@ -174,6 +185,7 @@ bad_line bad_of.Utf8 = refl
 bad_line bad_of.Verb = refl
 bad_line bad_of.Date = refl
 bad_line bad_of.Id = refl
+bad_line bad_of.Code = refl
 bad_line bad_of.Parameter = refl
 bad_line (bad_of.Value parameter) = value_line parameter
 bad_line bad_of.Box = refl
@@ -252,31 +264,39 @@ found_stored test (line ∷ lines) h = either (test line) (found_stored test lin
     either true more = (h.0, tt)
     either false more = more
 
+with_found : (found : Option (List ℕ)) (more : List (List ℕ)) → AllByRecursion IsStored (option_to_list found) → AllByRecursion IsStored more → AllByRecursion IsStored (cons_option found more)
+with_found None more one rest = rest
+with_found (Some line) more one rest = (one.0, rest)
+
 -- the rows of pairs are rows of the gazetteer
 all_found : (gaz : Gazetteer) (pairs : List Pair) → AllByRecursion IsStored gaz.rows → AllByRecursion IsStored (rows_at gaz pairs)
 all_found gaz [] h = tt
-all_found gaz (pair ∷ pairs) h = with_found (line_with table_of_name.Rows (pair.1 ∷ []) gaz) (found_stored _ gaz.rows h) (all_found gaz pairs h)
-  where
-    with_found : (found : Option (List ℕ)) → AllByRecursion IsStored (option_to_list found) → AllByRecursion IsStored (rows_at gaz pairs) → AllByRecursion IsStored (cons_option found (rows_at gaz pairs))
-    with_found None one more = more
-    with_found (Some line) one more = (one.0, more)
+all_found gaz (pair ∷ pairs) h = with_found (line_with table_of_name.Rows (pair.1 ∷ []) gaz) (rows_at gaz pairs) (found_stored _ gaz.rows h) (all_found gaz pairs h)
+
+-- and so are those of ids
+each_found : (gaz : Gazetteer) (ids : List ℕ) → AllByRecursion IsStored gaz.rows → AllByRecursion IsStored (rows_with gaz ids)
+each_found gaz [] h = tt
+each_found gaz (id ∷ ids) h = with_found (line_with table_of_name.Rows (id ∷ []) gaz) (rows_with gaz ids) (found_stored _ gaz.rows h) (each_found gaz ids h)
 
 if_marked : (b : Bool) (x y : Reply) → IsMarked x → IsMarked y → IsMarked (if b then x else y)
 if_marked true x y h k = h
 if_marked false x y h k = k
 
-read_marked : (state : State) (files : Files) (r : Result RequestAsked BadRequest) → AllByRecursion IsStored state.gaz.rows → ((date : ℕ) → date_in r ≡ Some date → is_some (day_in (date_text date)) ≡ true) → IsMarked (answer_to_read state files r).reply
+-- rows that are told where something was loaded
+told_marked : (state : State) (lines : List (List ℕ)) → AllByRecursion IsStored lines → IsMarked (if_loaded state (rows lines))
+told_marked state lines stored = if_marked (is_none state.gaz.date) (refused refusal.not_loaded) (rows lines) (refused_marked refusal.not_loaded refl) (rows_marked lines stored)
+
+read_marked : (state : State) (files : Files) (r : Result RequestAsked BadRequest) → AreStored state.gaz → ((date : ℕ) → date_in r ≡ Some date → is_some (day_in (date_text date)) ≡ true) → IsMarked (answer_to_read state files r).reply
 read_marked state files (Ok (asks_load date)) stored again = changed_marked state (done_of.Load date) (load files date) (again date refl) (load_in files date)
 read_marked state files (Ok (asks_day date)) stored again = changed_marked state (done_of.Day date) (day state.gaz files date) (again date refl) (day_in_line state.gaz files date)
-read_marked state files (Ok (asks_get id)) stored again =
-    let lines = option_to_list (line_with table_of_name.Rows (id ∷ []) state.gaz) in
-    if_marked (is_none state.gaz.date) (refused refusal.not_loaded) (rows lines) (refused_marked refusal.not_loaded refl) (rows_marked lines (found_stored _ state.gaz.rows stored))
-read_marked state files (Ok (asks_search asked)) stored again =
-    if_marked (is_none state.gaz.date) (refused refusal.not_loaded) (rows (search_of state.gaz asked)) (refused_marked refusal.not_loaded refl)
-    (rows_marked (search_of state.gaz asked) (all_found state.gaz (answer_pairs state.gaz asked) stored))
+read_marked state files (Ok (asks_get id)) stored again = told_marked state (option_to_list (line_with table_of_name.Rows (id ∷ []) state.gaz)) (found_stored _ state.gaz.rows stored.rows)
+read_marked state files (Ok (asks_search asked)) stored again = told_marked state (search_of state.gaz asked) (all_found state.gaz (answer_pairs state.gaz asked) stored.rows)
+read_marked state files (Ok (asks_children id max)) stored again = told_marked state (children_of state.gaz id max) (all_found state.gaz (children_pairs state.gaz id max) stored.rows)
+read_marked state files (Ok (asks_chain id)) stored again = told_marked state (hierarchy_of state.gaz id) (each_found state.gaz (reverse (chain_of state.gaz id)) stored.rows)
+read_marked state files (Ok (asks_admin code)) stored again = told_marked state (option_to_list (line_with table_of_name.Codes code state.gaz)) (found_stored _ state.gaz.codes stored.code_lines)
 read_marked state files (Err bad) stored again = refused_marked (refusal.request (bad_word bad)) (bad_line bad)
 
-pub answer_marked : (verdict : Verdict) (state : State) (files : Files) (line : List ℕ) → AllByRecursion IsStored state.gaz.rows → IsMarked (answer_by verdict state files line).reply
+pub answer_marked : (verdict : Verdict) (state : State) (files : Files) (line : List ℕ) → AreStored state.gaz → IsMarked (answer_by verdict state files line).reply
 answer_marked plain state files line stored =
     read_marked state files (request_in line) stored (λ date is. let text = was_read line date is in read_again text.0 date text.1)
 answer_marked memory state files line stored = refused_marked refusal.memory refl

@@ -4,7 +4,7 @@ use Rattle.std.specs.Prelude.{map, if◌then◌else◌, slice_get, is_some, Resu
 use Rattle.gaz_num.specs.Refusal.{Refusal}
 use Rattle.gaz_plain.specs.Gazetteer.{Gazetteer}
 use Rattle.gaz_plain.specs.Load.{Files, load, day}
-use Rattle.gaz_words.specs.Grammar.{RequestAsked, asks_load, asks_day, asks_get, asks_search}
+use Rattle.gaz_words.specs.Grammar.{RequestAsked, asks_load, asks_day, asks_get, asks_search, asks_children, asks_chain, asks_admin}
 use Rattle.gaz_words.specs.declared.request.BadRequest.{BadRequest}
 use Rattle.gaz_words.specs.Grammar.{request_in}
 use Rattle.gaz_reply.specs.declared.reply.Done.{Done}
@@ -48,6 +48,9 @@ read_same state files (Ok (asks_load date)) h = changed_same state (done_of.Load
 read_same state files (Ok (asks_day date)) h = changed_same state (done_of.Day date) (day state.gaz files date) h
 read_same state files (Ok (asks_get id)) h = refl
 read_same state files (Ok (asks_search asked)) h = refl
+read_same state files (Ok (asks_children id max)) h = refl
+read_same state files (Ok (asks_chain id)) h = refl
+read_same state files (Ok (asks_admin code)) h = refl
 read_same state files (Err bad) h = refl
 
 pub same_by : (verdict : Verdict) (state : State) (files : Files) (line : List ℕ) → is_change (answer_by verdict state files line).reply ≡ false → (answer_by verdict state files line).state ≡ state

@@ -16,7 +16,7 @@ use Rattle.gaz_open.proofs.Mirrored.{mirrored_is}
 use Rattle.gaz_turns.specs.Head.{Course, IsFront, HoldsAcked, IsStop, IsStored, Keeps}
 use Rattle.gaz_turns.specs.Turns.{State, Turn, answer_at, replies, gazetteers, state_after, after}
 use Rattle.gaz_turns.specs.Steps.{IsBeforeOrAfter}
-use Rattle.gaz_turns.proofs.Stored.{read_stored}
+use Rattle.gaz_turns.proofs.Stored.{AreStored, read_stored}
 use Rattle.gaz_turns.proofs.Replied.{IsMarked, answer_marked}
 use Rattle.gaz_turns.proofs.Tallies.{Tally, no_turn, one_turn, replies_on, gazetteers_on, front_acks, state_more, same_gaz, if_change, get_at, get_more}
 
@@ -35,7 +35,7 @@ pub record IsUnderWay (first : State) (entry now : StationView) (state : State) 
 abbrev as_it_is : StationView → Outcome
 as_it_is v = record { areas = v.bytes; text = v.printed }
 
-pub stored_now : (v : StationView) (gaz : Gazetteer) → ((a : Area) → v.may_leave a (v.bytes a)) → AllHold v gaz → AllByRecursion IsStored gaz.rows
+pub stored_now : (v : StationView) (gaz : Gazetteer) → ((a : Area) → v.may_leave a (v.bytes a)) → AllHold v gaz → AreStored gaz
 stored_now v gaz stay holds =
     let now : Leaves v (as_it_is v) = record { areas = stay; text = refl } in
     read_stored gaz (mirrored_is v.bytes gaz (holds (as_it_is v) now))

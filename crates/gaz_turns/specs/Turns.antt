@@ -3,16 +3,17 @@ use Rattle.std.specs.Prelude.{◌≡◌, ℕ, ◌⊎◌, ⊤, ◌++◌, List, []
 use Rattle.std.specs.List.{AllByRecursion}
 use Rattle.gaz_outside.specs.Outside.{ShelfView}
 use Rattle.gaz_num.specs.declared.words.FileName.{FileName}
-use Rattle.gaz_num.specs.declared.words.Table.TheVariants.{Rows}
+use Rattle.gaz_num.specs.declared.words.Table.TheVariants.{Rows, Codes}
 use Rattle.gaz_num.specs.Words.{file_text}
 use Rattle.gaz_num.specs.Refusal as refusal
 use Rattle.gaz_num.specs.Refusal.{Refusal}
 use Rattle.gaz_plain.specs.Gazetteer.{Gazetteer, empty, line_with}
 use Rattle.gaz_pick.specs.Asked.{NameAsked, absent, equals, starts}
 use Rattle.gaz_plain.specs.Search.{search_of}
+use Rattle.gaz_plain.specs.Kin.{children_of, hierarchy_of}
 use Rattle.gaz_plain.specs.Load.{Files, load, day, load_files, day_files, in_sequence}
 use Rattle.gaz_words.specs.declared.request.BadRequest.{BadRequest}
-use Rattle.gaz_words.specs.Grammar.{RequestAsked, asks_load, asks_day, asks_get, asks_search, request_in, bad_word}
+use Rattle.gaz_words.specs.Grammar.{RequestAsked, asks_load, asks_day, asks_get, asks_search, asks_children, asks_chain, asks_admin, request_in, bad_word}
 use Rattle.gaz_reply.specs.declared.reply.Done.{Done}
 use Rattle.gaz_reply.specs.declared.reply.Done.TheVariants as done_of
 use Rattle.gaz_reply.specs.Reply.{Reply, done, rows, refused, reply_text, is_change}
@@ -54,6 +55,9 @@ answer_to state files (asks_day date) = changed state (done_of.Day date) (day st
 answer_to state files (asks_get id) =
     same_state state (if_loaded state (rows (option_to_list (line_with Rows (id ∷ []) state.gaz))))
 answer_to state files (asks_search asked) = same_state state (if_loaded state (rows (search_of state.gaz asked)))
+answer_to state files (asks_children id max) = same_state state (if_loaded state (rows (children_of state.gaz id max)))
+answer_to state files (asks_chain id) = same_state state (if_loaded state (rows (hierarchy_of state.gaz id)))
+answer_to state files (asks_admin code) = same_state state (if_loaded state (rows (option_to_list (line_with Codes code state.gaz))))
 
 -- the answer to a line that was read, or refused by the grammar
 abbrev pub answer_to_read : State → Files → Result RequestAsked BadRequest → Answer
@@ -87,6 +91,9 @@ opens state (Ok (asks_load date)) = load_files
 opens state (Ok (asks_day date)) = day_opens (in_sequence state.gaz.date date)
 opens state (Ok (asks_get id)) = []
 opens state (Ok (asks_search asked)) = []
+opens state (Ok (asks_children id max)) = []
+opens state (Ok (asks_chain id)) = []
+opens state (Ok (asks_admin code)) = []
 opens state (Err bad) = []
 
 -- the file is one of these, and none before it is absent
@@ -100,6 +107,9 @@ ReadsFiles (Ok (asks_load date)) = ⊤
 ReadsFiles (Ok (asks_day date)) = ⊤
 ReadsFiles (Ok (asks_get id)) = ⊥
 ReadsFiles (Ok (asks_search asked)) = ⊥
+ReadsFiles (Ok (asks_children id max)) = ⊥
+ReadsFiles (Ok (asks_chain id)) = ⊥
+ReadsFiles (Ok (asks_admin code)) = ⊥
 ReadsFiles (Err bad) = ⊥
 
 -- a name is asked for
@@ -114,6 +124,9 @@ MayStarve (Ok (asks_load date)) = ⊤
 MayStarve (Ok (asks_day date)) = ⊤
 MayStarve (Ok (asks_get id)) = ⊥
 MayStarve (Ok (asks_search asked)) = AsksName asked.name
+MayStarve (Ok (asks_children id max)) = ⊥
+MayStarve (Ok (asks_chain id)) = ⊥
+MayStarve (Ok (asks_admin code)) = ⊥
 MayStarve (Err bad) = ⊥
 
 -- a request may be met by the verdict
