@@ -1,7 +1,8 @@
 //! Lines of the export, and requests.
-use gaz_num::{count_fields, field, read_count};
 use gaz_alt::{Alt, check_alt, check_delete};
+use gaz_num::{count_fields, field, read_count};
 use gaz_row::{Row, check_row};
+use gaz_tables::{LinkClass, check_code, check_country, check_link, country_place};
 use gaz_words::{Request, read_request};
 use std::io;
 
@@ -83,6 +84,62 @@ pub(crate) fn tell_delete(rt: &HostRuntime, line: &[u8]) -> io::Result<()> {
     }
 }
 
+/// A link: its child, class and parent, or the first reason against it.
+pub(crate) fn tell_link(rt: &HostRuntime, line: &[u8]) -> io::Result<()> {
+    match check_link(line) {
+        Ok(key) => {
+            let (child, class, parent) = (key.child, class_name(key.class), key.parent);
+            println!(rt; "{child} {class} {parent}")
+        }
+        Err(reason) => {
+            let reason = reason.text();
+            println!(rt; "refused {reason}")
+        }
+    }
+}
+
+fn class_name(class: LinkClass) -> &'static str {
+    match class {
+        LinkClass::Adm => "adm",
+        LinkClass::Plain => "plain",
+        LinkClass::Other => "other",
+    }
+}
+
+/// The place that a country's line names, or none.
+fn print_country(rt: &HostRuntime, code: &str, line: &[u8]) -> io::Result<()> {
+    match country_place(line) {
+        Some(place) => println!(rt; "<{code}> is {place}"),
+        None => println!(rt; "<{code}> is no place"),
+    }
+}
+
+/// A country: its code and its place, or a comment, or the first reason against it.
+pub(crate) fn tell_country(rt: &HostRuntime, line: &[u8]) -> io::Result<()> {
+    match check_country(line) {
+        Ok(Some(code)) => print_country(rt, text_of(code), line),
+        Ok(None) => println!(rt; "comment"),
+        Err(reason) => {
+            let reason = reason.text();
+            println!(rt; "refused {reason}")
+        }
+    }
+}
+
+/// An admin code, or the first reason against its line.
+pub(crate) fn tell_code(rt: &HostRuntime, line: &[u8]) -> io::Result<()> {
+    match check_code(line) {
+        Ok(code) => {
+            let code = text_of(code);
+            println!(rt; "<{code}>")
+        }
+        Err(reason) => {
+            let reason = reason.text();
+            println!(rt; "refused {reason}")
+        }
+    }
+}
+
 /// What the request asks, with the number of its date.
 fn print_request(rt: &HostRuntime, request: &Request<'_>) -> io::Result<()> {
     match request {
@@ -99,6 +156,9 @@ fn print_request(rt: &HostRuntime, request: &Request<'_>) -> io::Result<()> {
             let (start, most) = (query.start, query.max);
             println!(rt; "search from {start}, at most {most}")
         }
+        Request::Children(id, most) => println!(rt; "children of {id}, at most {most}"),
+        Request::Hierarchy(id) => println!(rt; "chain of {id}"),
+        Request::Admin(code) => println!(rt; "admin code <{code}>"),
     }
 }
 
