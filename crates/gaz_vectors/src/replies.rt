@@ -19,6 +19,10 @@ fn refusal_of(name: &str, day: Day) -> Option<Refusal<'_>> {
         "full of alternates" => {
             Refusal::Full(FileName::AltModifications(day), 5, Table::Alternates)
         }
+        "full of links" => Refusal::Full(FileName::Links, 8_388_609, Table::Links),
+        "full of countries" => Refusal::Full(FileName::Countries, 1_025, Table::Countries),
+        "full of codes" => Refusal::Full(FileName::Admin1, 1_048_577, Table::Codes),
+        "no code" => Refusal::Malformed(FileName::Admin2, 3, Reason::Code),
         "longest name" => Refusal::Absent(FileName::AltModifications(day)),
         "memory" => Refusal::Memory,
         _ => return None,
