@@ -1,5 +1,5 @@
 //! The gazetteer that is stepped on plain lists.
-ghost use Rattle.std.specs.Prelude.{◌≡◌, ◌≤◌, ◌+◌, ◌∷◌, ◌++◌, [], true, false, length, take, drop, IsSome, IsTrue, IsOk, IfOk, IfErr, OnOk, OnErr, Ok};
+ghost use Rattle.std.specs.Prelude.{◌≡◌, ◌≤◌, ◌+◌, ◌∷◌, ◌++◌, [], true, false, length, take, drop, slice_get, IsSome, IsTrue, IsOk, IfOk, IfErr, OnOk, OnErr, Ok};
 ghost use Rattle.std.specs.Option.{option_copied};
 ghost use Rattle.gaz_num.specs.declared.words.Table.TheVariants.{Rows};
 ghost use Rattle.gaz_pick.specs.Order.{in_order};
@@ -246,6 +246,13 @@ impl PlainGaz {
             Table::Countries => Lines::of_countries(self.countries.lines()),
             Table::Codes => Lines::of_codes(self.codes.lines()),
         }
+    }
+
+    /// The n-th line of the table in the order of keys, from 0. It goes over those before it: `lines` gives them all in one walk.
+    pub fn line(&self, table: Table, n: u32) -> Option<&[u8]>
+        ensures { option_copied result ≡ slice_get (lines_in self.now table) n }
+    {
+        self.lines(table).nth(n as usize)
     }
 
     /// Puts a line behind all others of its table, or answers `false` where they would be no table then: where the line

@@ -125,13 +125,20 @@ pub(crate) fn fold_file<F: Shelf>(
 }
 
 /// The most files that a request reads.
-const MOST_FILES: usize = 4;
+const MOST_FILES: usize = 6;
 
 /// The files of a load, in the order in which they are read.
-fn files_of_load() -> [FileName; 2]
+fn files_of_load() -> [FileName; 6]
     ensures { result ≡ load_files }
 {
-    [FileName::Rows, FileName::Alternates]
+    [
+        FileName::Rows,
+        FileName::Alternates,
+        FileName::Links,
+        FileName::Countries,
+        FileName::Admin1,
+        FileName::Admin2,
+    ]
 }
 
 /// The files of a day, in the order in which they are read.
