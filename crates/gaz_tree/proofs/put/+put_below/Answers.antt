@@ -1,13 +1,13 @@
-use Rattle.std.proofs.Common.{◌≡◌, ◌+◌, ◌-◌, ℕ, suc, refl, sym, subst, arith}
+use Rattle.std.proofs.Common.{◌≡◌, ◌≤◌, ◌+◌, ◌-◌, ℕ, List, suc, refl, sym, subst, arith}
 use Rattle.std.specs.Prelude.{IsTrue, Ok}
 use Rattle.gaz_leaf.specs.declared.kind.Kind.TheVariants.{Inner}
-use Rattle.gaz_leaf.specs.Node.{Pair, IsForm, key_of}
+use Rattle.gaz_leaf.specs.Node.{Pair, IsForm, count_of, key_of}
 use Rattle.gaz_tree.specs.declared.grown.Grown.{Grown}
 use Rattle.gaz_tree.specs.declared.grown.Grown.TheVariants.{Same, Kept}
 use Rattle.gaz_tree.specs.Tree.{next_key, IsHead, Reaches, children_of, BeginsWithZero}
 use Rattle.gaz_tree.specs.Calls.{LeadsTo}
 use Rattle.gaz_tree.specs.Put.{Puts}
-use Rattle.gaz_tree.proofs.Answered.{set_out, chain_same, puts_over, split_answered, kept_answered, same_answered}
+use Rattle.gaz_tree.proofs.Answered.{set_out, chain_same, puts_over, split_answered, kept_answered, same_answered, no_way_damage, damage_up}
 use Rattle.gaz_tree.proofs.put.+put_below.Goals as goal
 
 pub returns-then-level-eq0-clause-puts : goal.returns-then-level-eq0-clause-puts
@@ -36,8 +36,8 @@ returns-in-Ok-Split-clause-puts g t c told low high head lo hi lies chain =
     let to = c.in-Ok.way in
     let page = c.args.page in
     let p : Pair = record { key = k; value = c.args.value } in
-    let leads = λ (number : ℕ) (f : IsForm Inner number (old.page page)) (b : BeginsWithZero (children_of old.page page)).
-    subst (λ (m : ℕ). LeadsTo (children_of old.page page) m (Ok to)) key (c.in-Ok.ensures.leads told number f b) in
+    let leads = λ (f : IsForm Inner page (old.page page)) (b : BeginsWithZero (children_of old.page page)).
+    subst (λ (m : ℕ). LeadsTo (children_of old.page page) m (Ok to)) key (c.in-Ok.ensures.leads told f b) in
     let set = set_out old mid c.args.level below page low high k to same next head lo hi lies leads in
     let w = set.way.way in
     let put = subst (λ (r : Grown). Puts mid (v c.put_below.new.pages) below to.child w.at (next_key high w.ys) p (Ok r)) c.in-Ok-Split.field-0-is
@@ -47,7 +47,8 @@ returns-in-Ok-Split-clause-puts g t c told low high head lo hi lies chain =
     subst (λ (l : ℕ). Puts old last l page low high p c.add_entry.result) (sym next)
     (puts_over old mid last (suc below) page low high p c.add_entry.result same reads.unchanged
     (split_answered mid (v c.put_below.new.pages) last below page low high k to.place to.child (to.place + 1) p c.in-Ok-Split.half c.add_entry.result set.way refl refl put
-    (c.add_entry.ensures.adds again)))
+    (c.add_entry.ensures.adds again) (c.add_entry.ensures.damaged again)
+    (subst (λ (m : ℕ → List ℕ). to.place + 1 ≤ count_of (m page)) (sym same.pages) (let b = c.in-Ok.ensures.place told in omega arith))))
 
 pub returns-in-Ok-Kept-clause-puts : goal.returns-in-Ok-Kept-clause-puts
 returns-in-Ok-Kept-clause-puts g t c told low high head lo hi lies chain =
@@ -65,8 +66,8 @@ returns-in-Ok-Kept-clause-puts g t c told low high head lo hi lies chain =
     let to = c.in-Ok.way in
     let page = c.args.page in
     let p : Pair = record { key = k; value = c.args.value } in
-    let leads = λ (number : ℕ) (f : IsForm Inner number (old.page page)) (b : BeginsWithZero (children_of old.page page)).
-    subst (λ (m : ℕ). LeadsTo (children_of old.page page) m (Ok to)) key (c.in-Ok.ensures.leads told number f b) in
+    let leads = λ (f : IsForm Inner page (old.page page)) (b : BeginsWithZero (children_of old.page page)).
+    subst (λ (m : ℕ). LeadsTo (children_of old.page page) m (Ok to)) key (c.in-Ok.ensures.leads told f b) in
     let set = set_out old mid c.args.level below page low high k to same next head lo hi lies leads in
     let w = set.way.way in
     let put = subst (λ (r : Grown). Puts mid (v c.put_below.new.pages) below to.child w.at (next_key high w.ys) p (Ok r)) c.in-Ok-Kept.field-0-is
@@ -92,8 +93,8 @@ returns-in-Ok-Same-clause-puts g t c told low high head lo hi lies chain =
     let to = c.in-Ok.way in
     let page = c.args.page in
     let p : Pair = record { key = k; value = c.args.value } in
-    let leads = λ (number : ℕ) (f : IsForm Inner number (old.page page)) (b : BeginsWithZero (children_of old.page page)).
-    subst (λ (m : ℕ). LeadsTo (children_of old.page page) m (Ok to)) key (c.in-Ok.ensures.leads told number f b) in
+    let leads = λ (f : IsForm Inner page (old.page page)) (b : BeginsWithZero (children_of old.page page)).
+    subst (λ (m : ℕ). LeadsTo (children_of old.page page) m (Ok to)) key (c.in-Ok.ensures.leads told f b) in
     let set = set_out old mid c.args.level below page low high k to same next head lo hi lies leads in
     let w = set.way.way in
     let put = subst (λ (r : Grown). Puts mid (v c.put_below.new.pages) below to.child w.at (next_key high w.ys) p (Ok r)) c.in-Ok-Same.field-0-is
@@ -102,3 +103,26 @@ returns-in-Ok-Same-clause-puts g t c told low high head lo hi lies chain =
     subst (λ (l : ℕ). Puts old last l page low high p (Ok Same)) (sym next)
     (puts_over old mid last (suc below) page low high p (Ok Same) same reads.unchanged
     (put.0, same_answered mid below page low high k to.place to.child p set.way refl put.1, put.2))
+
+pub returns-in-Err-put_below-clause-puts : goal.returns-in-Err-put_below-clause-puts
+returns-in-Err-put_below-clause-puts g t c told low high head lo hi lies chain =
+    let v = g.P.Pages.view in
+    let old = v c.args.pages.now in
+    let mid = v c.read_way.new.pages in
+    let reads = c.in-Ok.ensures.reads in
+    let same = reads.same (λ failed. failed) told in
+    let still : IsTrue mid.is_told = subst IsTrue (sym reads.counts.told) told in
+    let some = c.if-level-eq0.false in
+    let below = c.args.level - 1 in
+    let next : c.args.level ≡ suc below = omega arith in
+    let key = c.read.ensures.is in
+    let k = key_of c.args.key.now in
+    let to = c.in-Ok.way in
+    let page = c.args.page in
+    let p : Pair = record { key = k; value = c.args.value } in
+    let leads = λ (f : IsForm Inner page (old.page page)) (b : BeginsWithZero (children_of old.page page)).
+    subst (λ (m : ℕ). LeadsTo (children_of old.page page) m (Ok to)) key (c.in-Ok.ensures.leads told f b) in
+    let set = set_out old mid c.args.level below page low high k to same next head lo hi lies leads in
+    let w = set.way.way in
+    damage_up old mid (v c.put_below.new.pages) c.args.level below page to.child low high w.at (next_key high w.ys) p c.in-Err-put_below.fault next same
+    (c.in-Err-put_below.ensures.puts still w.at (next_key high w.ys) set.child.tree.1 w.start w.end set.child.lies (chain_same old mid same chain))
