@@ -63,3 +63,25 @@ abbrev pub NamesOf : {T : Type 0} → (ℕ → List ℕ) → ℕ → ℕ → Res
 NamesOf pages zero top (Err (Damaged n)) = n ≡ top
 NamesOf pages zero top _ = Unit {0}
 NamesOf pages (suc level) top result = Names pages level top result
+
+-- Of a page above a level, to which the pages led, the call has written none.
+abbrev pub LeftAbove : (ℕ → List ℕ) → (ℕ → List ℕ) → ℕ → ℕ → ℕ → Type 0
+LeftAbove old new from page level = (l p : ℕ) → level < l → LeadsAt old from page l p → new p ≡ old p
+
+-- The page wasn't in form as one of its level before the call, unless the call itself has written it. The pages led to it there, unless the
+-- call has written a page above.
+pub record IsMisfitSince (old new : ℕ → List ℕ) (from page n : ℕ) : Type 0 where
+  pub level : ℕ
+  pub leads : LeftAbove old new from page level → LeadsAt old from page level n
+  pub unfit : new n ≡ old n → IsFit old from level n → ⊥
+
+-- Where a call that writes answers damage, it names such a page.
+abbrev pub NamesSince : {T : Type 0} → (ℕ → List ℕ) → (ℕ → List ℕ) → ℕ → ℕ → Result T PageFault → Type 0
+NamesSince old new from page (Err (Damaged n)) = IsMisfitSince old new from page n
+NamesSince old new from page _ = Unit {0}
+
+-- the same of a whole tree
+abbrev pub NamesSinceOf : {T : Type 0} → (ℕ → List ℕ) → (ℕ → List ℕ) → ℕ → ℕ → Result T PageFault → Type 0
+NamesSinceOf old new zero top (Err (Damaged n)) = n ≡ top
+NamesSinceOf old new zero top _ = Unit {0}
+NamesSinceOf old new (suc level) top result = NamesSince old new level top result

@@ -5,7 +5,7 @@ ghost use Rattle.gaz_leaf.specs.Node.{Pair, key_of, pairs_in, count_of as count_
 ghost use Rattle.gaz_tree.specs.Tree.{from_low};
 ghost use Rattle.gaz_page.specs.Pages.{HasReads, NoMemory};
 ghost use Rattle.gaz_tree.specs.Calls.{Unfit};
-ghost use Rattle.gaz_tree.specs.Put.{inserted, SplitEnds, Adds, IsTakeDamage};
+ghost use Rattle.gaz_tree.specs.Put.{inserted, SplitEnds, Adds, AddNames, Rises, IsTakeDamage};
 
 use crate::grown::{Grown, Half};
 use gaz_leaf::{Kind, count_of, first_key, insert, is_page, spread, zero_first};
@@ -72,6 +72,7 @@ fn split<P: Pages>(
     requires fits { IsFitting kind value }
     ensures adds { IsTrue (P.view pages.old).is_told → IsForm kind page left.old
         → Adds kind page (inserted n (record { key = key_of key.now; value = value }) (pairs_in kind left.old)) (P.view pages.old) (P.view pages.new) result }
+    ensures rises { OnOk result (IsTrue (P.view pages.old).is_told → Rises 1 (P.view pages.old) (P.view pages.new)) }
     ensures damaged { IsTrue (P.view pages.old).is_told → IsTakeDamage (P.view pages.old) result }
     ensures counts { Counts 1 3 (P.view pages.old) (P.view pages.new) }
     ensures cause { HasPageCause (P.view pages.old) (P.view pages.new) result }
@@ -112,6 +113,8 @@ pub fn add_entry<P: Pages>(
         → Adds kind page (inserted n (record { key = key_of key.now; value = value }) (pairs_in kind ((P.view pages.old).page page))) (P.view pages.old) (P.view pages.new) result }
     ensures damaged { IsTrue (P.view pages.old).is_told → IsForm kind page ((P.view pages.old).page page) → n ≤ count_in ((P.view pages.old).page page)
         → IsTakeDamage (P.view pages.old) result }
+    ensures rises { OnOk result (IsTrue (P.view pages.old).is_told → Rises 1 (P.view pages.old) (P.view pages.new)) }
+    ensures names { IsTrue (P.view pages.old).is_told → AddNames kind page n (P.view pages.old) (P.view pages.new) result }
     ensures counts { Counts 2 3 (P.view pages.old) (P.view pages.new) }
     ensures cause { HasPageCause (P.view pages.old) (P.view pages.new) result }
     ensures keeps { P.keeps pages.old pages.new }

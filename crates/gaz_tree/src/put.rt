@@ -3,7 +3,7 @@ ghost use Rattle.std.specs.Prelude.{◌≡◌, ◌≤◌, ◌<◌, ◌+◌, ◌*
 ghost use Rattle.gaz_page.specs.Pages.{HasPageCause, Counts};
 ghost use Rattle.gaz_leaf.specs.Node.{Pair, key_in, key_of};
 ghost use Rattle.gaz_tree.specs.Tree.{IsHead, Reaches};
-ghost use Rattle.gaz_tree.specs.Put.{HasChain, IsTaken, Puts};
+ghost use Rattle.gaz_tree.specs.Put.{HasChain, IsTaken, Puts, PutNames, Rises};
 
 use crate::add::add_entry;
 use crate::get::read_way;
@@ -23,6 +23,8 @@ fn put_leaf<P: Pages>(
     ensures puts { IsTrue (P.view pages.old).is_told → (low high : ℕ) → IsHead (P.view pages.old).page 0 page low high → low ≤ key_of key.now → key_of key.now < high
         → IsTaken (P.view pages.old).fresh page → HasChain (P.view pages.old)
         → Puts (P.view pages.old) (P.view pages.new) 0 page low high (record { key = key_of key.now; value = value }) result }
+    ensures rises { OnOk result (IsTrue (P.view pages.old).is_told → Rises 1 (P.view pages.old) (P.view pages.new)) }
+    ensures names { IsTrue (P.view pages.old).is_told → PutNames (P.view pages.old) (P.view pages.new) 0 page result }
     ensures counts { Counts 3 3 (P.view pages.old) (P.view pages.new) }
     ensures cause { HasPageCause (P.view pages.old) (P.view pages.new) result }
     ensures keeps { P.keeps pages.old pages.new }
@@ -50,6 +52,8 @@ pub fn put_below<P: Pages>(
     ensures puts { IsTrue (P.view pages.old).is_told → (low high : ℕ) → IsHead (P.view pages.old).page level page low high → low ≤ key_of key.now → key_of key.now < high
         → ((n : ℕ) → Reaches (P.view pages.old).page level page n → IsTaken (P.view pages.old).fresh n) → HasChain (P.view pages.old)
         → Puts (P.view pages.old) (P.view pages.new) level page low high (record { key = key_of key.now; value = value }) result }
+    ensures rises { OnOk result (IsTrue (P.view pages.old).is_told → Rises (level + 1) (P.view pages.old) (P.view pages.new)) }
+    ensures names { IsTrue (P.view pages.old).is_told → PutNames (P.view pages.old) (P.view pages.new) level page result }
     ensures counts { Counts (3 * (level + 1)) (3 * (level + 1)) (P.view pages.old) (P.view pages.new) }
     ensures cause { HasPageCause (P.view pages.old) (P.view pages.new) result }
     ensures keeps { P.keeps pages.old pages.new }

@@ -5,10 +5,10 @@ ghost use Rattle.std.specs.Prelude.{false, ◌^◌, ◌<◌, [], Some, IfOk, OnO
 ghost use Rattle.gaz_page.specs.Pages.{HasPageCause, Counts, SamePages, IsDamaged, damage};
 ghost use Rattle.gaz_tree.specs.Pairs.{lookup, put};
 ghost use Rattle.gaz_tree.specs.Put.{Changes, HasChain, TakesFew, Trades};
-ghost use Rattle.gaz_tree.specs.Stands.{OfTree, Stands, PutDamage, IsWithout};
+ghost use Rattle.gaz_tree.specs.Stands.{OfTree, Stands, PutDamage, PutNamesOf, IsWithout};
 ghost use Rattle.gaz_tree.specs.Tree.{IsTop};
-ghost use Rattle.gaz_page.specs.Pages.{HasReads, NoMemory};
-ghost use Rattle.gaz_tree.specs.Calls.{IsGot, NamesOf};
+ghost use Rattle.gaz_page.specs.Pages.{HasReads, NoMemory, NotDamaged};
+ghost use Rattle.gaz_tree.specs.Calls.{IsGot, NamesOf, NamesSinceOf};
 
 use crate::add::load;
 use crate::get::get_below;
@@ -90,6 +90,7 @@ impl Tree {
         ensures takes { OnOk result (IsTrue (P.view pages.old).is_told → (pairs : List Pair) → Stands (P.view pages.old) self.old pairs
             → TakesFew 7 (P.view pages.old) (P.view pages.new)) }
         ensures damaged { IsTrue (P.view pages.old).is_told → (pairs : List Pair) → Stands (P.view pages.old) self.old pairs → PutDamage (P.view pages.old) self.old result }
+        ensures names { IsTrue (P.view pages.old).is_told → PutNamesOf (P.view pages.old) (P.view pages.new) self.old result }
         ensures left { OnErr result (self.new ≡ self.old) }
         ensures counts { self.old.height ≤ 6 → Counts 20 20 (P.view pages.old) (P.view pages.new) }
         ensures cause { HasPageCause (P.view pages.old) (P.view pages.new) result }
@@ -125,6 +126,8 @@ impl Tree {
         requires may_change { (P.view pages.old).is_read_only ≡ false }
         ensures removed { IfOk result (λ found. IsTrue (P.view pages.old).is_told → (pairs : List Pair) → Stands (P.view pages.old) self.old pairs
             → IsWithout (P.view pages.old) (P.view pages.new) self.old self.new (key_of key.now) pairs found) }
+        ensures damaged { IsTrue (P.view pages.old).is_told → (pairs : List Pair) → Stands (P.view pages.old) self.old pairs → IfErr result NotDamaged }
+        ensures names { IsTrue (P.view pages.old).is_told → NamesSinceOf (P.view pages.old).page (P.view pages.new).page self.old.height self.old.top result }
         ensures left { OnErr result (self.new ≡ self.old) }
         ensures counts { self.old.height ≤ 6 → Counts 25 20 (P.view pages.old) (P.view pages.new) }
         ensures cause { HasPageCause (P.view pages.old) (P.view pages.new) result }

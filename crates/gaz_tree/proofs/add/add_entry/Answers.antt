@@ -4,6 +4,7 @@ use Rattle.gaz_leaf.specs.Node.{Pair, pairs_in, key_of, IsForm}
 use Rattle.gaz_tree.specs.Put.{inserted, Adds}
 use Rattle.gaz_tree.proofs.Adds.{adds_over}
 use Rattle.gaz_tree.proofs.Trading.{take_damage_over}
+use Rattle.gaz_tree.proofs.PutNamed.{add_taken}
 use Rattle.gaz_tree.proofs.add.add_entry.Goals as goal
 
 pub returns-then-count-capacity-clause-adds : goal.returns-then-count-capacity-clause-adds
@@ -23,3 +24,10 @@ returns-then-count-capacity-clause-damaged g c told form within =
     let reads = c.in-Ok.ensures.reads in
     let still : IsTrue (v c.load.new.pages).is_told = subst IsTrue (sym reads.counts.told) told in
     take_damage_over (v c.args.pages.now) (v c.load.new.pages) c.split.result (reads.same (λ failed. failed) told) (c.split.ensures.damaged still)
+
+pub returns-then-count-capacity-clause-names : goal.returns-then-count-capacity-clause-names
+returns-then-count-capacity-clause-names g c told =
+    let v = g.P.Pages.view in
+    let reads = c.in-Ok.ensures.reads in
+    let still : IsTrue (v c.load.new.pages).is_told = subst IsTrue (sym reads.counts.told) told in
+    add_taken c.args.kind c.args.page c.args.n (v c.args.pages.now) (v c.load.new.pages) (v c.split.new.pages) c.split.result (reads.same (λ failed. failed) told) (c.split.ensures.damaged still)

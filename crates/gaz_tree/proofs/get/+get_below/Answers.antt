@@ -1,4 +1,4 @@
-use Rattle.std.proofs.Common.{◌≡◌, ◌-◌, ◌+◌, suc, sym, subst, arith}
+use Rattle.std.proofs.Common.{◌≡◌, ◌-◌, suc, sym, subst, arith}
 use Rattle.std.specs.Prelude.{IsTrue, Err}
 use Rattle.gaz_leaf.specs.Node.{key_in}
 use Rattle.std.specs.Prelude.{Option, ℕ}

@@ -1,5 +1,5 @@
 use Rattle.std.proofs.Common.{◌≡◌, ◌≤◌, ◌+◌, ◌-◌, ℕ, List, suc, refl, sym, subst, arith}
-use Rattle.std.specs.Prelude.{IsTrue, Ok}
+use Rattle.std.specs.Prelude.{IsTrue, Result, Ok, Err}
 use Rattle.gaz_leaf.specs.declared.kind.Kind.TheVariants.{Inner}
 use Rattle.gaz_leaf.specs.Node.{Pair, IsForm, count_of, key_of}
 use Rattle.gaz_tree.specs.declared.grown.Grown.{Grown}
@@ -7,7 +7,12 @@ use Rattle.gaz_tree.specs.declared.grown.Grown.TheVariants.{Same, Kept}
 use Rattle.gaz_tree.specs.Tree.{next_key, IsHead, Reaches, children_of, BeginsWithZero}
 use Rattle.gaz_tree.specs.Calls.{LeadsTo}
 use Rattle.gaz_tree.specs.Put.{Puts}
-use Rattle.gaz_tree.proofs.Answered.{set_out, chain_same, puts_over, split_answered, kept_answered, same_answered, no_way_damage, damage_up}
+use Rattle.gaz_tree.proofs.Answered.{set_out, chain_same, puts_over, split_answered, kept_answered, same_answered, damage_up}
+use Rattle.gaz_page.specs.declared.pages.PageFault.{PageFault}
+use Rattle.gaz_tree.specs.declared.way.Way.{Way}
+use Rattle.gaz_tree.specs.Calls.{Names}
+use Rattle.gaz_tree.proofs.Named.{names_failed, since_of}
+use Rattle.gaz_tree.proofs.PutNamed.{put_since, put_up, put_split}
 use Rattle.gaz_tree.proofs.put.+put_below.Goals as goal
 
 pub returns-then-level-eq0-clause-puts : goal.returns-then-level-eq0-clause-puts
@@ -126,3 +131,45 @@ returns-in-Err-put_below-clause-puts g t c told low high head lo hi lies chain =
     let w = set.way.way in
     damage_up old mid (v c.put_below.new.pages) c.args.level below page to.child low high w.at (next_key high w.ys) p c.in-Err-put_below.fault next same
     (c.in-Err-put_below.ensures.puts still w.at (next_key high w.ys) set.child.tree.1 w.start w.end set.child.lies (chain_same old mid same chain))
+
+pub returns-in-Err-clause-names : goal.returns-in-Err-clause-names
+returns-in-Err-clause-names g t c told =
+    let v = g.P.Pages.view in
+    let old = v c.args.pages.now in
+    let new = v c.read_way.new.pages in
+    let some = c.if-level-eq0.false in
+    let next : suc (c.args.level - 1) ≡ c.args.level = omega arith in
+    let result : Result Grown PageFault = Err c.in-Err.fault in
+    put_since old new c.args.level c.args.page result
+    (since_of old.page new.page c.args.level c.args.page result
+    (names_failed Way Grown old.page c.args.level c.args.page c.in-Err.fault
+    (subst (λ (l : ℕ). Names {T = Way} old.page l c.args.page (Err c.in-Err.fault)) next (c.in-Err.ensures.names told (c.args.level - 1)))))
+
+pub returns-in-Err-put_below-clause-names : goal.returns-in-Err-put_below-clause-names
+returns-in-Err-put_below-clause-names g t c told =
+    let v = g.P.Pages.view in
+    let old = v c.args.pages.now in
+    let mid = v c.read_way.new.pages in
+    let reads = c.in-Ok.ensures.reads in
+    let same = reads.same (λ failed. failed) told in
+    let still : IsTrue mid.is_told = subst IsTrue (sym reads.counts.told) told in
+    let some = c.if-level-eq0.false in
+    let below = c.args.level - 1 in
+    let next : c.args.level ≡ suc below = omega arith in
+    let result : Result Grown PageFault = Err c.in-Err-put_below.fault in
+    put_up old mid (v c.put_below.new.pages) c.args.level below c.args.page c.in-Ok.way.child result next same (c.in-Ok.ensures.child told) (c.in-Err-put_below.ensures.names still)
+
+pub returns-in-Ok-Split-clause-names : goal.returns-in-Ok-Split-clause-names
+returns-in-Ok-Split-clause-names g t c told =
+    let v = g.P.Pages.view in
+    let old = v c.args.pages.now in
+    let mid = v c.read_way.new.pages in
+    let reads = c.in-Ok.ensures.reads in
+    let same = reads.same (λ failed. failed) told in
+    let still : IsTrue mid.is_told = subst IsTrue (sym reads.counts.told) told in
+    let some = c.if-level-eq0.false in
+    let below = c.args.level - 1 in
+    let next : c.args.level ≡ suc below = omega arith in
+    let again : IsTrue (v c.put_below.new.pages).is_told = subst IsTrue (sym c.put_below.ensures.counts.told) still in
+    put_split old mid (v c.put_below.new.pages) (v c.add_entry.new.pages) c.args.level below c.args.page (c.in-Ok.way.place + 1) c.add_entry.result next same
+    (c.in-Ok-Split.ensures.rises still) (let b = c.in-Ok.ensures.place told in omega arith) (c.add_entry.ensures.names again)

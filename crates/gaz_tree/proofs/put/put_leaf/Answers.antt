@@ -7,8 +7,10 @@ use Rattle.gaz_tree.specs.Pairs.{lookup, put}
 use Rattle.gaz_tree.specs.Tree.{leaf_of}
 use Rattle.gaz_tree.specs.Put.{inserted, IsAdded, Places}
 use Rattle.gaz_tree.proofs.Leaves.{IsLeafOf}
+use Rattle.gaz_tree.specs.Put.{IsPlaceOf}
+use Rattle.gaz_tree.proofs.PutNamed.{put_leaf_added}
 use Rattle.gaz_tree.proofs.Apart.{length_pairs}
-use Rattle.gaz_tree.proofs.Answered.{leaf_answered, leaf_over, no_place_damage, no_damage}
+use Rattle.gaz_tree.proofs.Answered.{leaf_answered, leaf_over, no_damage}
 use Rattle.gaz_tree.proofs.put.put_leaf.Goals as goal
 
 pub returns-in-Ok-clause-puts : goal.returns-in-Ok-clause-puts
@@ -81,3 +83,12 @@ returns-in-Err-put_over-clause-puts g c told low high head lo hi lies chain =
     let form = subst (λ (m : ℕ → List ℕ). IsForm Leaf page (m page)) (sym same.pages) head.0 in
     no_damage old (v c.put_over.new.pages) 0 page low high (record { key = key_of c.args.key.now; value = c.args.value }) c.in-Err-put_over.fault
     (c.in-Err-put_over.ensures.fine still form (let size = length_pairs Leaf (old.page page) in let b = place.2 in subst (λ (m : ℕ → List ℕ). n < count_of (m page)) (sym same.pages) (omega arith)))
+
+pub returns-in-Ok-Between-clause-names : goal.returns-in-Ok-Between-clause-names
+returns-in-Ok-Between-clause-names g c told =
+    let v = g.P.Pages.view in
+    let old = v c.args.pages.now in
+    let reads = c.in-Ok-Between.ensures.reads in
+    let still : IsTrue (v c.read_place.new.pages).is_told = subst IsTrue (sym reads.counts.told) told in
+    put_leaf_added old (v c.read_place.new.pages) (v c.add_entry.new.pages) c.args.page c.in-Ok-Between.n c.add_entry.result (reads.same (λ failed. failed) told)
+    (subst (IsPlaceOf (count_of (old.page c.args.page))) c.in-Ok-Between.field-0-is (c.in-Ok-Between.ensures.within told)) (c.add_entry.ensures.names still)
