@@ -15,13 +15,13 @@ use Rattle.gaz_tree.proofs.Thinned.{thinned}
 use Rattle.gaz_tree.proofs.Named.{least_some}
 
 -- a child in form with an entry
-abbrev IsReady : (ℕ → List ℕ) → ℕ → ℕ → Type 0
+abbrev pub IsReady : (ℕ → List ℕ) → ℕ → ℕ → Type 0
 IsReady pages level n = IsForm (kind_at level) n (pages n) × (1 ≤ count_of (pages n))
 
 tree_ready : (pages : ℕ → List ℕ) (level n low high : ℕ) → IsTree pages level n low high → IsReady pages level n
 tree_ready pages level n low high tree = (head_form pages level n low high tree.1, (let full = tree.0.filled in let some = least_some level in omega arith))
 
-fan_ready : (pages : ℕ → List ℕ) (level high n : ℕ) (es : List Pair) → IsFan (IsTree pages level) high es → SomeEntry (λ e. e.value ≡ n) es → IsReady pages level n
+pub fan_ready : (pages : ℕ → List ℕ) (level high n : ℕ) (es : List Pair) → IsFan (IsTree pages level) high es → SomeEntry (λ e. e.value ≡ n) es → IsReady pages level n
 fan_ready pages level high n [] fan some = absurd some
 fan_ready pages level high n (e ∷ es) fan (inl is) = subst (IsReady pages level) is (tree_ready pages level e.value e.key (next_key high es) fan.0)
 fan_ready pages level high n (e ∷ es) fan (inr some) = fan_ready pages level high n es fan.1 some

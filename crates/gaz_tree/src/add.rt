@@ -5,7 +5,7 @@ ghost use Rattle.gaz_leaf.specs.Node.{Pair, key_of, pairs_in, count_of as count_
 ghost use Rattle.gaz_tree.specs.Tree.{from_low};
 ghost use Rattle.gaz_page.specs.Pages.{HasReads, NoMemory};
 ghost use Rattle.gaz_tree.specs.Calls.{Unfit};
-ghost use Rattle.gaz_tree.specs.Put.{inserted, SplitEnds, Adds, AddNames, Rises, IsTakeDamage};
+ghost use Rattle.gaz_tree.specs.Put.{inserted, SplitEnds, Adds, AddNames, Rises, IfKept, IsTakeDamage};
 
 use crate::grown::{Grown, Half};
 use gaz_leaf::{Kind, count_of, first_key, insert, is_page, spread, zero_first};
@@ -74,6 +74,7 @@ fn split<P: Pages>(
         → Adds kind page (inserted n (record { key = key_of key.now; value = value }) (pairs_in kind left.old)) (P.view pages.old) (P.view pages.new) result }
     ensures rises { OnOk result (IsTrue (P.view pages.old).is_told → Rises 1 (P.view pages.old) (P.view pages.new)) }
     ensures damaged { IsTrue (P.view pages.old).is_told → IsTakeDamage (P.view pages.old) result }
+    ensures split { IfKept result ⊥ }
     ensures counts { Counts 1 3 (P.view pages.old) (P.view pages.new) }
     ensures cause { HasPageCause (P.view pages.old) (P.view pages.new) result }
     ensures keeps { P.keeps pages.old pages.new }
@@ -115,6 +116,7 @@ pub fn add_entry<P: Pages>(
         → IsTakeDamage (P.view pages.old) result }
     ensures rises { OnOk result (IsTrue (P.view pages.old).is_told → Rises 1 (P.view pages.old) (P.view pages.new)) }
     ensures names { IsTrue (P.view pages.old).is_told → AddNames kind page n (P.view pages.old) (P.view pages.new) result }
+    ensures light { IfKept result ((P.view pages.new).reads ≤ (P.view pages.old).reads + 1) }
     ensures counts { Counts 2 3 (P.view pages.old) (P.view pages.new) }
     ensures cause { HasPageCause (P.view pages.old) (P.view pages.new) result }
     ensures keeps { P.keeps pages.old pages.new }

@@ -6,6 +6,7 @@
 #![tactic(auto)]
 
 mod add;
+mod even;
 mod get;
 mod grown;
 mod mend;

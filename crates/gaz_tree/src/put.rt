@@ -3,9 +3,10 @@ ghost use Rattle.std.specs.Prelude.{◌≡◌, ◌≤◌, ◌<◌, ◌+◌, ◌*
 ghost use Rattle.gaz_page.specs.Pages.{HasPageCause, Counts};
 ghost use Rattle.gaz_leaf.specs.Node.{Pair, key_in, key_of};
 ghost use Rattle.gaz_tree.specs.Tree.{IsHead, Reaches};
-ghost use Rattle.gaz_tree.specs.Put.{HasChain, IsTaken, Puts, PutNames, Rises};
+ghost use Rattle.gaz_tree.specs.Put.{HasChain, IsTaken, Puts, PutNames, Rises, IfKept};
 
 use crate::add::add_entry;
+use crate::even::even_out;
 use crate::get::read_way;
 use crate::grown::Grown;
 use crate::place::{Place, put_over, read_place};
@@ -25,6 +26,7 @@ fn put_leaf<P: Pages>(
         → Puts (P.view pages.old) (P.view pages.new) 0 page low high (record { key = key_of key.now; value = value }) result }
     ensures rises { OnOk result (IsTrue (P.view pages.old).is_told → Rises 1 (P.view pages.old) (P.view pages.new)) }
     ensures names { IsTrue (P.view pages.old).is_told → PutNames (P.view pages.old) (P.view pages.new) 0 page result }
+    ensures light { IfKept result ((P.view pages.new).reads ≤ (P.view pages.old).reads + 2) }
     ensures counts { Counts 3 3 (P.view pages.old) (P.view pages.new) }
     ensures cause { HasPageCause (P.view pages.old) (P.view pages.new) result }
     ensures keeps { P.keeps pages.old pages.new }
@@ -54,7 +56,8 @@ pub fn put_below<P: Pages>(
         → Puts (P.view pages.old) (P.view pages.new) level page low high (record { key = key_of key.now; value = value }) result }
     ensures rises { OnOk result (IsTrue (P.view pages.old).is_told → Rises (level + 1) (P.view pages.old) (P.view pages.new)) }
     ensures names { IsTrue (P.view pages.old).is_told → PutNames (P.view pages.old) (P.view pages.new) level page result }
-    ensures counts { Counts (3 * (level + 1)) (3 * (level + 1)) (P.view pages.old) (P.view pages.new) }
+    ensures light { IfKept result (level ≡ 0 → (P.view pages.new).reads ≤ (P.view pages.old).reads + 2) }
+    ensures counts { Counts (3 * (level + 1) + 1) (3 * (level + 1)) (P.view pages.old) (P.view pages.new) }
     ensures cause { HasPageCause (P.view pages.old) (P.view pages.new) result }
     ensures keeps { P.keeps pages.old pages.new }
 {
@@ -74,7 +77,15 @@ pub fn put_below<P: Pages>(
             &half.key,
             half.page as u64,
         ),
-        Ok(Grown::Kept) => Ok(Grown::Kept),
+        Ok(Grown::Kept) => {
+            if level != 1 {
+                return Ok(Grown::Kept);
+            }
+            match even_out(pages, page, way) {
+                Ok(()) => Ok(Grown::Kept),
+                Err(fault) => Err(fault),
+            }
+        }
         Ok(Grown::Same) => Ok(Grown::Same),
         Err(fault) => Err(fault),
     }

@@ -1,4 +1,4 @@
-use Rattle.std.proofs.Common.{◌≡◌, ◌+◌, ◌++◌, ◌∙◌, ℕ, List, refl, sym, ap, subst}
+use Rattle.std.proofs.Common.{inl, ◌≡◌, ◌+◌, ◌++◌, ◌∙◌, ℕ, List, refl, sym, ap, subst}
 use Rattle.std.specs.Prelude.{IsTrue}
 use Rattle.gaz_page.specs.Pages.{PagesView, SamePages}
 use Rattle.gaz_leaf.specs.declared.kind.Kind.{Kind}
@@ -51,8 +51,8 @@ returns-then-first-second-clause-mends g c = ok_of _ c.join_pages.result (λ tol
       mends = c.join_pages.ensures.mends again (parent ∙ (λ j. sym r.same.pages j c.args.page)) r.left_is r.both;
     })
 
-pub returns-clause-mends : goal.returns-clause-mends
-returns-clause-mends g c = ok_of _ c.share_pages.result (λ told parent.
+pub returns-in-Ok-share_pages-clause-mends : goal.returns-in-Ok-share_pages-clause-mends
+returns-in-Ok-share_pages-clause-mends g c told parent =
     let v = g.P.Pages.view in
     let old = v c.args.pages.now in
     let reads = c.in-Ok.ensures.reads in
@@ -64,9 +64,9 @@ returns-clause-mends g c = ok_of _ c.share_pages.result (λ told parent.
     record {
       mid = v c.load-2.new.pages;
       same = r.same;
-      mends = c.share_pages.ensures.mends again (parent ∙ (λ j. sym r.same.pages j c.args.page)) r.left_is
-          (λ n f. c.raise.ensures.form n (subst (IsForm c.args.kind n) (sym r.right_is) f)) r.both;
-    })
+      mends = inl (c.in-Ok-share_pages.ensures.shares again (parent ∙ (λ j. sym r.same.pages j c.args.page)) r.left_is
+          (λ n f. c.raise.ensures.form n (subst (IsForm c.args.kind n) (sym r.right_is) f)) r.both);
+    }
 
 pub returns-in-Err-clause-names : goal.returns-in-Err-clause-names
 returns-in-Err-clause-names g c told =
@@ -110,8 +110,3 @@ pub returns-then-first-second-clause-names : goal.returns-then-first-second-clau
 returns-then-first-second-clause-names g c told =
     let v = g.P.Pages.view in
     child_fine c.args.kind (pairs_in Inner c.args.parent.now) (v c.args.pages.now).page (v c.join_pages.new.pages).page c.join_pages.result c.join_pages.ensures.fault
-
-pub returns-clause-names : goal.returns-clause-names
-returns-clause-names g c told =
-    let v = g.P.Pages.view in
-    child_fine c.args.kind (pairs_in Inner c.args.parent.now) (v c.args.pages.now).page (v c.share_pages.new.pages).page c.share_pages.result c.share_pages.ensures.fault
