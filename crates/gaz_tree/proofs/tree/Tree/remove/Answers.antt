@@ -1,11 +1,12 @@
 use Rattle.std.proofs.Common.{◌≡◌, ◌-◌, ◌^◌, ◌∙◌, ℕ, List, sym, ap, subst, arith}
 use Rattle.std.specs.Prelude.{IsTrue, Ok}
-use Rattle.gaz_leaf.specs.Node.{count_of, key_of}
+use Rattle.gaz_leaf.specs.Node.{count_of, key_of, key_in}
 use Rattle.gaz_tree.specs.declared.shrunk.Shrunk.{Shrunk}
+use Rattle.gaz_tree.specs.declared.shrunk.Shrunk.TheVariants.{Absent, Fine, Low}
 use Rattle.gaz_tree.specs.Remove.{Removes, child_in}
 use Rattle.gaz_tree.proofs.Roots.{at_level}
 use Rattle.gaz_tree.proofs.Removes.{removed_then}
-use Rattle.gaz_tree.proofs.Lowered.{without_absent, without_fine, without_kept, leaf_two, other_two, lowered}
+use Rattle.gaz_tree.proofs.Lowered.{below_removed, without_absent, without_fine, without_kept, leaf_two, other_two, lowered}
 use Rattle.std.proofs.Common.{suc, refl}
 use Rattle.std.specs.Prelude.{Result, Err, Bool}
 use Rattle.gaz_page.specs.declared.pages.PageFault.{PageFault}
@@ -26,10 +27,8 @@ returns-in-Ok-Absent-clause-removed g c told pairs s =
     let mid = v c.remove_below.new.pages in
     let tree = c.args.self.now in
     let key = key_of c.args.key.now in
-    let a = at_level old tree pairs s in
-    let removed = subst (λ (f : Shrunk). Removes old mid (tree.height - 1) tree.top 0 (2 ^ 256) key (Ok f)) c.in-Ok-Absent.field-0-is
-    (subst (λ (k : ℕ). Removes old mid (tree.height - 1) tree.top 0 (2 ^ 256) k (Ok c.in-Ok-Absent.field-0)) c.read.ensures.is
-    (c.in-Ok-Absent.ensures.removes told 0 (2 ^ 256) a.head (omega arith) c.read.ensures.fits a.lies a.chain)) in
+    let removed = below_removed old mid tree key (key_in c.read.result) pairs (Ok c.in-Ok-Absent.field-0) (Ok Absent) s c.read.ensures.is c.read.ensures.fits (ap (λ (f : Shrunk). Ok f) c.in-Ok-Absent.field-0-is)
+    (c.in-Ok-Absent.ensures.removes told) in
     without_absent old mid tree key pairs s removed
 
 pub returns-in-Ok-Fine-clause-removed : goal.returns-in-Ok-Fine-clause-removed
@@ -39,10 +38,8 @@ returns-in-Ok-Fine-clause-removed g c told pairs s =
     let mid = v c.remove_below.new.pages in
     let tree = c.args.self.now in
     let key = key_of c.args.key.now in
-    let a = at_level old tree pairs s in
-    let removed = subst (λ (f : Shrunk). Removes old mid (tree.height - 1) tree.top 0 (2 ^ 256) key (Ok f)) c.in-Ok-Fine.field-0-is
-    (subst (λ (k : ℕ). Removes old mid (tree.height - 1) tree.top 0 (2 ^ 256) k (Ok c.in-Ok-Fine.field-0)) c.read.ensures.is
-    (c.in-Ok-Fine.ensures.removes told 0 (2 ^ 256) a.head (omega arith) c.read.ensures.fits a.lies a.chain)) in
+    let removed = below_removed old mid tree key (key_in c.read.result) pairs (Ok c.in-Ok-Fine.field-0) (Ok Fine) s c.read.ensures.is c.read.ensures.fits (ap (λ (f : Shrunk). Ok f) c.in-Ok-Fine.field-0-is)
+    (c.in-Ok-Fine.ensures.removes told) in
     without_fine old mid tree key pairs s removed
 
 pub returns-then-self-eq1-clause-removed : goal.returns-then-self-eq1-clause-removed
@@ -52,10 +49,8 @@ returns-then-self-eq1-clause-removed g c told pairs s =
     let mid = v c.remove_below.new.pages in
     let tree = c.args.self.now in
     let key = key_of c.args.key.now in
-    let a = at_level old tree pairs s in
-    let removed = subst (λ (f : Shrunk). Removes old mid (tree.height - 1) tree.top 0 (2 ^ 256) key (Ok f)) c.in-Ok-Low.field-0-is
-    (subst (λ (k : ℕ). Removes old mid (tree.height - 1) tree.top 0 (2 ^ 256) k (Ok c.in-Ok-Low.field-0)) c.read.ensures.is
-    (c.in-Ok-Low.ensures.removes told 0 (2 ^ 256) a.head (omega arith) c.read.ensures.fits a.lies a.chain)) in
+    let removed = below_removed old mid tree key (key_in c.read.result) pairs (Ok c.in-Ok-Low.field-0) (Ok Low) s c.read.ensures.is c.read.ensures.fits (ap (λ (f : Shrunk). Ok f) c.in-Ok-Low.field-0-is)
+    (c.in-Ok-Low.ensures.removes told) in
     let one = c.if-self-eq1.true in
     without_kept old mid tree key pairs s removed (leaf_two mid (tree.height - 1) tree.top (omega arith))
 
@@ -66,10 +61,8 @@ returns-then-count-ne1-clause-removed g c told pairs s =
     let mid = v c.remove_below.new.pages in
     let tree = c.args.self.now in
     let key = key_of c.args.key.now in
-    let a = at_level old tree pairs s in
-    let removed = subst (λ (f : Shrunk). Removes old mid (tree.height - 1) tree.top 0 (2 ^ 256) key (Ok f)) c.in-Ok-Low.field-0-is
-    (subst (λ (k : ℕ). Removes old mid (tree.height - 1) tree.top 0 (2 ^ 256) k (Ok c.in-Ok-Low.field-0)) c.read.ensures.is
-    (c.in-Ok-Low.ensures.removes told 0 (2 ^ 256) a.head (omega arith) c.read.ensures.fits a.lies a.chain)) in
+    let removed = below_removed old mid tree key (key_in c.read.result) pairs (Ok c.in-Ok-Low.field-0) (Ok Low) s c.read.ensures.is c.read.ensures.fits (ap (λ (f : Shrunk). Ok f) c.in-Ok-Low.field-0-is)
+    (c.in-Ok-Low.ensures.removes told) in
     let reads = c.in-Ok.ensures.reads in
     let still : IsTrue mid.is_told = subst IsTrue (sym c.remove_below.ensures.counts.told) told in
     let same = reads.same (λ failed. failed) still in
@@ -86,10 +79,8 @@ returns-clause-removed g c told pairs s =
     let mid = v c.remove_below.new.pages in
     let tree = c.args.self.now in
     let key = key_of c.args.key.now in
-    let a = at_level old tree pairs s in
-    let removed = subst (λ (f : Shrunk). Removes old mid (tree.height - 1) tree.top 0 (2 ^ 256) key (Ok f)) c.in-Ok-Low.field-0-is
-    (subst (λ (k : ℕ). Removes old mid (tree.height - 1) tree.top 0 (2 ^ 256) k (Ok c.in-Ok-Low.field-0)) c.read.ensures.is
-    (c.in-Ok-Low.ensures.removes told 0 (2 ^ 256) a.head (omega arith) c.read.ensures.fits a.lies a.chain)) in
+    let removed = below_removed old mid tree key (key_in c.read.result) pairs (Ok c.in-Ok-Low.field-0) (Ok Low) s c.read.ensures.is c.read.ensures.fits (ap (λ (f : Shrunk). Ok f) c.in-Ok-Low.field-0-is)
+    (c.in-Ok-Low.ensures.removes told) in
     let reads = c.in-Ok.ensures.reads in
     let still : IsTrue mid.is_told = subst IsTrue (sym c.remove_below.ensures.counts.told) told in
     let same = reads.same (λ failed. failed) still in
@@ -117,10 +108,8 @@ returns-in-Err-load-clause-damaged g c told pairs s =
     let mid = v c.remove_below.new.pages in
     let tree = c.args.self.now in
     let key = key_of c.args.key.now in
-    let a = at_level old tree pairs s in
-    let removed = subst (λ (f : Shrunk). Removes old mid (tree.height - 1) tree.top 0 (2 ^ 256) key (Ok f)) c.in-Ok-Low.field-0-is
-    (subst (λ (k : ℕ). Removes old mid (tree.height - 1) tree.top 0 (2 ^ 256) k (Ok c.in-Ok-Low.field-0)) c.read.ensures.is
-    (c.in-Ok-Low.ensures.removes told 0 (2 ^ 256) a.head (omega arith) c.read.ensures.fits a.lies a.chain)) in
+    let removed = below_removed old mid tree key (key_in c.read.result) pairs (Ok c.in-Ok-Low.field-0) (Ok Low) s c.read.ensures.is c.read.ensures.fits (ap (λ (f : Shrunk). Ok f) c.in-Ok-Low.field-0-is)
+    (c.in-Ok-Low.ensures.removes told) in
     let still : IsTrue mid.is_told = subst IsTrue (sym c.remove_below.ensures.counts.told) told in
     let tall = s.top.tall in
     let more = c.if-self-eq1.false in
