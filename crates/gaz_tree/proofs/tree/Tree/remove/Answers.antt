@@ -3,7 +3,7 @@ use Rattle.std.specs.Prelude.{IsTrue, Ok}
 use Rattle.gaz_leaf.specs.Node.{count_of, key_of, key_in}
 use Rattle.gaz_tree.specs.declared.shrunk.Shrunk.{Shrunk}
 use Rattle.gaz_tree.specs.declared.shrunk.Shrunk.TheVariants.{Absent, Fine, Low}
-use Rattle.gaz_tree.specs.Remove.{Removes, child_in}
+use Rattle.gaz_tree.specs.Remove.{child_in}
 use Rattle.gaz_tree.proofs.Roots.{at_level}
 use Rattle.gaz_tree.proofs.Removes.{removed_then}
 use Rattle.gaz_tree.proofs.Lowered.{below_removed, without_absent, without_fine, without_kept, leaf_two, other_two, lowered}
