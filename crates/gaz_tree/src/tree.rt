@@ -89,7 +89,7 @@ impl Tree {
         // At most seven pages are taken.
         ensures takes { OnOk result (IsTrue (P.view pages.old).is_told → (pairs : List Pair) → Stands (P.view pages.old) self.old pairs
             → TakesFew 7 (P.view pages.old) (P.view pages.new)) }
-        ensures damaged { IsTrue (P.view pages.old).is_told → (pairs : List Pair) → Stands (P.view pages.old) self.old pairs → PutDamage (P.view pages.old) self.old result }
+        ensures damaged { IsTrue (P.view pages.old).is_told → (pairs : List Pair) → Stands (P.view pages.old) self.old pairs → PutDamage (P.view pages.old) self.old pairs result }
         ensures names { IsTrue (P.view pages.old).is_told → PutNamesOf (P.view pages.old) (P.view pages.new) self.old result }
         ensures left { OnErr result (self.new ≡ self.old) }
         ensures counts { self.old.height ≤ 6 → Counts 20 20 (P.view pages.old) (P.view pages.new) }
