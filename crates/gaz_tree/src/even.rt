@@ -10,7 +10,7 @@ use crate::way::Way;
 use gaz_leaf::{Kind, child_at, count_of};
 use gaz_page::{PageFault, Pages};
 
-/// How many pairs a leaf may have that a full one shares with: then both have room, and more than nine tenths of it are used.
+/// Up to how many pairs of the leaf before it a full leaf shares with it. With more, nine tenths of that leaf are in use.
 const MOST: usize = 92;
 
 /// Whether a leaf is full.

@@ -42,7 +42,8 @@ fn put_leaf<P: Pages>(
     }
 }
 
-/// Puts a pair in below a page of a level. What is split off from the child becomes an entry of the page.
+/// Puts a pair in below a page of a level. What is split off from the child becomes an entry of the page. A leaf that has become full
+/// shares with the one before it.
 pub fn put_below<P: Pages>(
     pages: &mut P,
     level: u8,
