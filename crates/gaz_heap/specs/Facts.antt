@@ -66,6 +66,14 @@ pub record Puts (old new : PagesView) (current now : ℕ) (free : List ℕ) (byt
   -- the page for new records stays one, and where it was full it has another in its place
   pub records : IsForRecords old current → IsForRecords new now
 
+-- A record was put into the page for new records: into its least free slot, and no page was taken for it.
+pub record PutsThere (old new : PagesView) (current now place : ℕ) : Type 0 where
+  pub page : page_of place ≡ current
+  pub same : now ≡ current
+  pub least : (slot : ℕ) → slot < slot_of place → IsTrue (is_used (old.page current) slot)
+  pub free : new.free ≡ old.free
+  pub fresh : new.fresh ≡ old.fresh
+
 -- what a drop makes of pages of which these were free
 pub record Drops (old new : PagesView) (current : ℕ) (free : List ℕ) (place : ℕ) : Type 0 where
   -- the place has no record

@@ -18,3 +18,6 @@ returns-then-bytes-le-SHORT-clause-damaged g c told free heap =
 pub returns-clause-damaged : goal.returns-clause-damaged
 returns-clause-damaged g c told free heap =
     long_fails (g.P.Pages.view c.args.pages.now) c.args.current.now free c.put_long.result (c.put_long.ensures.damaged told free heap.least heap.chain)
+
+pub returns-then-bytes-le-SHORT-clause-there : goal.returns-then-bytes-le-SHORT-clause-there
+returns-then-bytes-le-SHORT-clause-there g c = more_ok _ _ c.put_short.result (λ place there told _. there told) c.put_short.ensures.there
