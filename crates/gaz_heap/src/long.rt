@@ -4,7 +4,7 @@ ghost use Rattle.gaz_page.specs.Pages.{Costs};
 ghost use Rattle.gaz_heap.specs.Heap.{HasUsed, DropsPiece, DropDamage, GivesAll};
 ghost use Rattle.gaz_heap.specs.Chain.{chain_at, chain_pages};
 ghost use Rattle.gaz_page.specs.Chains.{Each, InUse, IsFreeChain};
-ghost use Rattle.gaz_heap.specs.Facts.{IsHeap, Puts, PutsThere, PutFails, LongFails, Holds, Drops, DropsAny, Given};
+ghost use Rattle.gaz_heap.specs.Facts.{IsHeap, Puts, PutsThere, PutFails, PutNames, LongFails, LongNames, Holds, Drops, DropsAny, Given};
 ghost use Rattle.gaz_heap.specs.Place.{record_at, page_of};
 ghost use Rattle.gaz_slots.specs.Room.{Fits};
 
@@ -23,6 +23,7 @@ pub fn put<P: Pages>(pages: &mut P, current: &mut u32, bytes: &[u8]) -> Result<u
     ensures page { length bytes.now ≤ 4076 → IfOk result (λ place. page_of place ≡ current.new) }
     ensures there { IfOk result (λ place. IsTrue (P.view pages.old).is_told → length bytes.now ≤ 4076 → current.old ≢ 0 → Fits (length bytes.now) ((P.view pages.old).page current.old) → PutsThere (P.view pages.old) (P.view pages.new) current.old current.new place) }
     ensures behind { IsTrue (P.view pages.old).is_told → OnOk result ((current.new ≡ current.old) ⊎ ((current.old ≡ 0) ⊎ HasUsed ((P.view pages.old).page current.old))) }
+    ensures named { IsTrue (P.view pages.old).is_told → PutNames (P.view pages.old) current.old bytes.now result }
     ensures damaged { IsTrue (P.view pages.old).is_told → (free : List ℕ) → IsHeap (P.view pages.old) current.old free → PutFails (P.view pages.old) current.old free result }
     ensures left { OnErr result (current.new ≡ current.old) }
     ensures costs { Costs 17 36 (P.view pages.old) (P.view pages.new) result }
@@ -50,6 +51,7 @@ fn put_long<P: Pages>(pages: &mut P, bytes: &[u8]) -> Result<u64, PageFault>
     requires long { 4076 < length bytes.now }
     requires short { length bytes.now ≤ 65535 }
     ensures puts { IfOk result (λ place. IsTrue (P.view pages.old).is_told → (current : ℕ) (free : List ℕ) → IsHeap (P.view pages.old) current free → Puts (P.view pages.old) (P.view pages.new) current current free bytes.now place) }
+    ensures named { IsTrue (P.view pages.old).is_told → LongNames (P.view pages.old) result }
     ensures damaged { IsTrue (P.view pages.old).is_told → (free : List ℕ) → 1 ≤ (P.view pages.old).fresh → IsFreeChain (P.view pages.old) (P.view pages.old).free free → LongFails (P.view pages.old) free result }
     ensures costs { Costs 17 34 (P.view pages.old) (P.view pages.new) result }
     ensures keeps { P.keeps pages.old pages.new }
