@@ -10,19 +10,19 @@ pub(crate) trait LineKey: Ord + Clone + Drop {
 
     ghost compares: { (a b : Self) → Self.cmp a b ≡ key_cmp (numbers a) (numbers b) };
 
-    ghost copies: { (a b : Self) → Self.is_clone a b → b ≡ a };
+    ghost copies: { (a b : Self) → Self.is_clone a b → numbers b ≡ numbers a };
 }
 
 /// The id of a row or of an alternate name.
 impl LineKey for u32 {
     ghost use Rattle.std.specs.Prelude.{[], ◌∷◌};
-    ghost use Rattle.gaz_plain.specs.Keys.{compares_alone};
+    ghost use Rattle.gaz_plain.specs.Keys.{compares_alone, same_alone};
 
     ghost numbers = { λ id. id ∷ [] };
 
     ghost compares = { λ a b. compares_alone a b };
 
-    ghost copies = { λ a b is. is };
+    ghost copies = { λ a b is. same_alone a b is };
 }
 
 /// Says by its type which table a list has.
