@@ -1,5 +1,5 @@
 -- A list of lines by its entries.
-use Rattle.std.proofs.Common.{◌≡◌, ℕ, ◌+◌, ◌<◌, ◌≤◌, Bool, true, false, List, [], ◌∷◌, ◌++◌, length, map, filter, Some, refl, ap, ◌∙◌, arith}
+use Rattle.std.proofs.Common.{◌≡◌, ℕ, ◌+◌, ◌<◌, ◌≤◌, Bool, true, false, List, [], ◌∷◌, ◌++◌, length, map, filter, Some, refl, sym, ap, ◌∙◌, arith}
 use Rattle.std.specs.Prelude.{Vec, vec_items, is_some, option_map, if◌then◌else◌, ◌↔◌, ◌==◌, All}
 use Rattle.std.specs.BTreeMap.{insert_entry, is_at}
 use Rattle.std.specs.List.{AllByRecursion, AllZip}
@@ -10,7 +10,6 @@ use Rattle.std.proofs.lemmas.Bool.Decides.{nat_tests}
 use Rattle.std.specs.declared.cmp.Ordering.{Ordering}
 use Rattle.std.specs.declared.cmp.Ordering.TheVariants.{Less, Equal, Greater}
 use Rattle.std.proofs.lemmas.List.{length-map, length-append}
-use Rattle.std.proofs.lemmas.Map.Entries.{length-keys_of}
 use Rattle.gaz_num.specs.declared.words.Table.{Table}
 use Rattle.gaz_plain.specs.Gazetteer.{key_of, key_cmp, limit_of, line_at}
 use Rattle.gaz_plain.specs.Places.{IsKeyOf, EndsBefore, TakesBehind, has_room, with_line, without_line}
@@ -132,7 +131,7 @@ module _ {K Z : Type 0} (table : Table) (cmp : K → K → Ordering) (numbers : 
 
   -- ---- a copy
 
-  module _ (C : K → K → Type 0) (D : Vec ℕ Z → Vec ℕ Z → Type 0) (same_keys : (a b : K) → C a b → b ≡ a) (same_items : (v w : Vec ℕ Z) → D v w → vec_items w ≡ vec_items v) where
+  module _ (C : K → K → Type 0) (D : Vec ℕ Z → Vec ℕ Z → Type 0) (same_numbers : (a b : K) → C a b → numbers b ≡ numbers a) (same_items : (v w : Vec ℕ Z) → D v w → vec_items w ≡ vec_items v) where
     abbrev AreCopies : List (K × Vec ℕ Z) → List (K × Vec ℕ Z) → Type 0
     AreCopies xs ys = AllZip (λ p q. C p.0 q.0 × D p.1 q.1) xs ys
 
@@ -142,26 +141,35 @@ module _ {K Z : Type 0} (table : Table) (cmp : K → K → Ordering) (numbers : 
     same_lines (x ∷ xs) [] copies = absurd copies
     same_lines (x ∷ xs) (y ∷ ys) copies = rw (same_items x.1 y.1 copies.0.1) (ap (λ ls. vec_items x.1 ∷ ls) (same_lines xs ys copies.1))
 
-    all_same_keys : (xs ys : List (K × Vec ℕ Z)) → AreCopies xs ys → keys_of ys ≡ keys_of xs
-    all_same_keys [] [] copies = refl
-    all_same_keys [] (y ∷ ys) copies = absurd copies
-    all_same_keys (x ∷ xs) [] copies = absurd copies
-    all_same_keys (x ∷ xs) (y ∷ ys) copies = rw (same_keys x.0 y.0 copies.0.0) (ap (λ ks. x.0 ∷ ks) (all_same_keys xs ys copies.1))
+    same_compared : (a b c d : K) → C a b → C c d → cmp b d ≡ cmp a c
+    same_compared a b c d first second =
+        compares b d ∙ ap (λ n. key_cmp n (numbers d)) (same_numbers a b first) ∙ ap (key_cmp (numbers a)) (same_numbers c d second) ∙ sym (compares a c)
+
+    below_all : (a b : K) → C a b → (xs ys : List (K × Vec ℕ Z)) → AreCopies xs ys → AllByRecursion (λ k. cmp a k ≡ Less) (keys_of xs) → AllByRecursion (λ k. cmp b k ≡ Less) (keys_of ys)
+    below_all a b first [] [] copies below = tt
+    below_all a b first [] (y ∷ ys) copies below = absurd copies
+    below_all a b first (x ∷ xs) [] copies below = absurd copies
+    below_all a b first (x ∷ xs) (y ∷ ys) copies below = (same_compared a b x.0 y.0 first copies.0.0 ∙ below.0, below_all a b first xs ys copies.1 below.1)
+
+    copied_rising : (xs ys : List (K × Vec ℕ Z)) → AreCopies xs ys → IsStrictlySortedBy cmp (keys_of xs) → IsStrictlySortedBy cmp (keys_of ys)
+    unfolding IsStrictlySortedBy
+    copied_rising [] [] copies rising = tt
+    copied_rising [] (y ∷ ys) copies rising = absurd copies
+    copied_rising (x ∷ xs) [] copies rising = absurd copies
+    copied_rising (x ∷ xs) (y ∷ ys) copies rising = (below_all x.0 y.0 copies.0.0 xs ys copies.1 rising.0, copied_rising xs ys copies.1 rising.1)
 
     copied_keyed : (xs ys : List (K × Vec ℕ Z)) → AreCopies xs ys → AllByRecursion (λ e. IsKeyOf table (numbers e.0) (vec_items e.1)) xs → AllByRecursion (λ e. IsKeyOf table (numbers e.0) (vec_items e.1)) ys
     copied_keyed [] [] copies keyed = tt
     copied_keyed [] (y ∷ ys) copies keyed = absurd copies
     copied_keyed (x ∷ xs) [] copies keyed = absurd copies
-    copied_keyed (x ∷ xs) (y ∷ ys) copies keyed = (rw (same_keys x.0 y.0 copies.0.0, same_items x.1 y.1 copies.0.1) keyed.0, copied_keyed xs ys copies.1 keyed.1)
+    copied_keyed (x ∷ xs) (y ∷ ys) copies keyed = (rw (same_numbers x.0 y.0 copies.0.0, same_items x.1 y.1 copies.0.1) keyed.0, copied_keyed xs ys copies.1 keyed.1)
 
     pub copied_seen : (new : List (K × Vec ℕ Z)) → AreCopies es new → lines_of new ≡ lines_of es
     copied_seen new copies = same_lines es new copies
 
     pub copied_are : (new : List (K × Vec ℕ Z)) → AreCopies es new → AreEntries table cmp numbers new
-    copied_are new copies =
-        let keys = all_same_keys es new copies in
-        record {
-          keyed = copied_keyed es new copies are.keyed;
-          rising = rw keys are.rising;
-          within = omega (arith, are.within, ap length keys, length-keys_of es, length-keys_of new);
-        }
+    copied_are new copies = record {
+      keyed = copied_keyed es new copies are.keyed;
+      rising = copied_rising es new copies are.rising;
+      within = omega (arith, are.within, ap length (same_lines es new copies), length-map es (λ entry. vec_items entry.1), length-map new (λ entry. vec_items entry.1));
+    }

@@ -14,3 +14,6 @@ same_then Greater = refl
 -- numbers compare as the keys that are them alone
 pub compares_alone : (a b : ℕ) → nat_cmp a b ≡ key_cmp (a ∷ []) (b ∷ [])
 compares_alone a b = same_then (nat_cmp a b)
+
+pub same_alone : (a b : ℕ) → b ≡ a → b ∷ [] ≡ a ∷ []
+same_alone a b is = λ i. is i ∷ []

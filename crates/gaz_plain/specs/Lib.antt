@@ -6,7 +6,6 @@ pub mod Laws
 pub mod Places
 pub mod Keys
 pub mod Entries
-pub mod Lines
 pub mod Faults
 pub mod Names
 pub mod Placed

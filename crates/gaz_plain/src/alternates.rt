@@ -1,6 +1,6 @@
 //! Alternate names by their ids and by their places.
 use crate::PlainFault;
-use crate::key::AltId;
+use crate::key::OfAlternates;
 use crate::line_list::{LineIter, LineList};
 use crate::place_order::PlaceOrder;
 use crate::wanted::Wanted;
@@ -12,7 +12,7 @@ use std::marker::Model;
 /// Alternate names, seen as the list of their lines. Those of a place are found without going over all.
 #[derive(Drop)]
 pub(crate) struct Alternates {
-    list: LineList<AltId>,
+    list: LineList<u32, OfAlternates>,
     order: PlaceOrder,
 }
 
@@ -57,7 +57,7 @@ impl Alternates {
     }
 
     /// The lines in the order of their ids.
-    pub fn lines(&self) -> LineIter<'_, AltId>
+    pub fn lines(&self) -> LineIter<'_, u32>
         ensures { result ≡ self.now }
     {
         self.list.lines()
@@ -67,7 +67,7 @@ impl Alternates {
     fn place_of(&self, id: u32) -> Option<u32>
         ensures { result ≡ option_map place_in (line_at AltTable (id ∷ []) self.now) }
     {
-        match self.list.get(&AltId(id)) {
+        match self.list.get(&id) {
             Some(line) => Some(Alt::of(line).place()),
             None => None,
         }
@@ -83,13 +83,13 @@ impl Alternates {
         ensures fault { IfErr result (IsPutFault AltTable (length (with_line AltTable (id ∷ []) line.now self.old))) }
         ensures err { OnErr result (self.new ≡ self.old) }
     {
-        if !self.list.has_room(&AltId(id)) {
+        if !self.list.has_room(&id) {
             return Err(PlainFault::Full(Table::Alternates));
         }
         let place = Alt::of(line).place();
         let old = self.place_of(id);
         let added = self.order.insert(place, id)?;
-        if let Err(cause) = self.list.put(AltId(id), line) {
+        if let Err(cause) = self.list.put(id, line) {
             if added {
                 self.order.remove(place, id);
             }
@@ -112,7 +112,7 @@ impl Alternates {
         ensures within { length self.new ≤ limit_of AltTable }
     {
         let old = self.place_of(id);
-        self.list.take_out(&AltId(id));
+        self.list.take_out(&id);
         match old {
             Some(place) => self.order.remove(place, id),
             None => {}
@@ -130,7 +130,7 @@ impl Alternates {
     {
         let place = Alt::of(line).place();
         let added = self.order.insert(place, id)?;
-        let appended = self.list.append(AltId(id), line);
+        let appended = self.list.append(id, line);
         if let Ok(true) = appended {
             return Ok(true);
         }
@@ -170,7 +170,7 @@ impl Alternates {
     ) -> Result<bool, AllocError>
         ensures { IfOk result (λ is. is ≡ fits_line wanted.now (option_copied lang.entry) place (line_at AltTable (id ∷ []) self.now)) }
     {
-        match self.list.get(&AltId(id)) {
+        match self.list.get(&id) {
             Some(line) => wanted.fits_as(alloc, lang, place, &Alt::of(line)),
             None => Ok(false),
         }

@@ -1,60 +1,57 @@
-//! The keys of tables.
+//! The keys of lines, and which table a list has.
 use gaz_num::Table;
 
-/// A key of the lines of a table. Its order is that of the definitions.
-pub(crate) trait TableKey: Ord + Clone + Drop {
+/// A key of a line. It is ordered as the definitions order its numbers.
+pub(crate) trait LineKey: Ord + Clone + Drop {
     ghost use Rattle.std.specs.Prelude.{◌≡◌, ℕ, List};
-    ghost use Rattle.gaz_num.specs.declared.words.Table.{Table};
     ghost use Rattle.gaz_plain.specs.Gazetteer.{key_cmp};
-
-    ghost TABLE: { Table };
-
-    /// The table whose lines have such keys.
-    const TABLE: Table;
 
     ghost numbers: { Self → List ℕ };
 
     ghost compares: { (a b : Self) → Self.cmp a b ≡ key_cmp (numbers a) (numbers b) };
 
-    ghost copies: { (a b : Self) → Self.is_clone a b → b ≡ a };
+    ghost copies: { (a b : Self) → Self.is_clone a b → numbers b ≡ numbers a };
 }
 
-/// The id of a row.
-#[derive(Clone, Copy, Debug, PartialEq, Eq, PartialOrd, Ord)]
-pub(crate) struct RowId(pub u32);
-
-impl TableKey for RowId {
+/// The id of a row or of an alternate name.
+impl LineKey for u32 {
     ghost use Rattle.std.specs.Prelude.{[], ◌∷◌};
+    ghost use Rattle.gaz_plain.specs.Keys.{compares_alone, same_alone};
+
+    ghost numbers = { λ id. id ∷ [] };
+
+    ghost compares = { λ a b. compares_alone a b };
+
+    ghost copies = { λ a b is. same_alone a b is };
+}
+
+/// Says by its type which table a list has.
+pub(crate) trait OfTable {
+    ghost use Rattle.gaz_num.specs.declared.words.Table.{Table};
+
+    ghost TABLE: { Table };
+
+    const TABLE: Table;
+}
+
+/// The list of the rows.
+pub(crate) struct OfRows;
+
+impl OfTable for OfRows {
     ghost use Rattle.gaz_num.specs.declared.words.Table.TheVariants.{Rows};
-    ghost use Rattle.gaz_plain.specs.Keys.{compares_alone};
 
     ghost TABLE = { Rows };
 
     const TABLE: Table = Table::Rows;
-
-    ghost numbers = { λ id. id.0 ∷ [] };
-
-    ghost compares = { λ a b. compares_alone a.0 b.0 };
-
-    ghost copies = { λ a b is. is };
 }
 
-/// The id of an alternate name.
-#[derive(Clone, Copy, Debug, PartialEq, Eq, PartialOrd, Ord)]
-pub(crate) struct AltId(pub u32);
+/// The list of the alternate names.
+pub(crate) struct OfAlternates;
 
-impl TableKey for AltId {
-    ghost use Rattle.std.specs.Prelude.{[], ◌∷◌};
+impl OfTable for OfAlternates {
     ghost use Rattle.gaz_num.specs.declared.words.Table.TheVariants.{Alternates};
-    ghost use Rattle.gaz_plain.specs.Keys.{compares_alone};
 
     ghost TABLE = { Alternates };
 
     const TABLE: Table = Table::Alternates;
-
-    ghost numbers = { λ id. id.0 ∷ [] };
-
-    ghost compares = { λ a b. compares_alone a.0 b.0 };
-
-    ghost copies = { λ a b is. is };
 }

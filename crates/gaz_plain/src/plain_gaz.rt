@@ -12,7 +12,7 @@ ghost use Rattle.gaz_plain.specs.Wanted.{wanted_of};
 
 use crate::PlainFault;
 use crate::alternates::Alternates;
-use crate::key::RowId;
+use crate::key::OfRows;
 use crate::line_list::LineList;
 use crate::lines::Lines;
 use crate::wanted::Wanted;
@@ -27,7 +27,7 @@ use std::marker::Model;
 #[derive(Drop)]
 pub struct PlainGaz {
     date: Option<Day>,
-    rows: LineList<RowId>,
+    rows: LineList<u32, OfRows>,
     alternates: Alternates,
 }
 
@@ -81,7 +81,7 @@ impl PlainGaz {
         ensures date { self.new.date ≡ self.old.date }
     {
         match check_row(line) {
-            Ok(id) => self.rows.put(RowId(id), line),
+            Ok(id) => self.rows.put(id, line),
             Err(reason) => Err(PlainFault::Malformed(reason)),
         }
     }
@@ -96,7 +96,7 @@ impl PlainGaz {
     {
         match check_delete(line) {
             Ok(id) => {
-                self.rows.take_out(&RowId(id));
+                self.rows.take_out(&id);
                 Ok(())
             }
             Err(reason) => Err(PlainFault::Malformed(reason)),
@@ -153,7 +153,7 @@ impl PlainGaz {
     pub fn get(&self, id: u32) -> Option<&[u8]>
         ensures { option_copied result ≡ line_with Rows (id ∷ []) self.now }
     {
-        self.rows.get(&RowId(id))
+        self.rows.get(&id)
     }
 
     /// How many lines the table has.
@@ -171,8 +171,8 @@ impl PlainGaz {
         ensures { result ≡ lines_in self.now table }
     {
         match table {
-            Table::Rows => Lines::of_rows(self.rows.lines()),
-            Table::Alternates => Lines::of_alternates(self.alternates.lines()),
+            Table::Rows => Lines::of(self.rows.lines()),
+            Table::Alternates => Lines::of(self.alternates.lines()),
         }
     }
 
@@ -204,7 +204,7 @@ impl PlainGaz {
         let Ok(id) = check_row(line) else {
             return Ok(false);
         };
-        self.rows.append(RowId(id), line)
+        self.rows.append(id, line)
     }
 
     /// Puts an alternate name behind all others.

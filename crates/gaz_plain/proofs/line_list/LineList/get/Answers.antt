@@ -8,11 +8,11 @@ pub returns-in-Some : goal.returns-in-Some
 returns-in-Some g c =
     ap Some c.as_slice.ensures.value
     ∙ ap (option_map vec_items) c.in-Some.ensures.value
-    ∙ found g.K.TableKey.TABLE g.K.Ord.cmp g.K.TableKey.numbers g.met.K.TableKey.compares c.self.inside.lines.entries c.self.invariant (g.K.TableKey.numbers c.args.key.now) (g.K.Ord.cmp c.args.key.now) (g.met.K.TableKey.compares c.args.key.now)
-    ∙ ap (line_at g.K.TableKey.TABLE (g.K.TableKey.numbers c.args.key.now)) c.self.view_is
+    ∙ found g.T.OfTable.TABLE g.K.Ord.cmp g.K.LineKey.numbers g.met.K.LineKey.compares c.self.inside.lines.entries c.self.invariant (g.K.LineKey.numbers c.args.key.now) (g.K.Ord.cmp c.args.key.now) (g.met.K.LineKey.compares c.args.key.now)
+    ∙ ap (line_at g.T.OfTable.TABLE (g.K.LineKey.numbers c.args.key.now)) c.self.view_is
 
 pub returns-in-None : goal.returns-in-None
 returns-in-None g c =
     ap (option_map vec_items) c.in-None.ensures.value
-    ∙ found g.K.TableKey.TABLE g.K.Ord.cmp g.K.TableKey.numbers g.met.K.TableKey.compares c.self.inside.lines.entries c.self.invariant (g.K.TableKey.numbers c.args.key.now) (g.K.Ord.cmp c.args.key.now) (g.met.K.TableKey.compares c.args.key.now)
-    ∙ ap (line_at g.K.TableKey.TABLE (g.K.TableKey.numbers c.args.key.now)) c.self.view_is
+    ∙ found g.T.OfTable.TABLE g.K.Ord.cmp g.K.LineKey.numbers g.met.K.LineKey.compares c.self.inside.lines.entries c.self.invariant (g.K.LineKey.numbers c.args.key.now) (g.K.Ord.cmp c.args.key.now) (g.met.K.LineKey.compares c.args.key.now)
+    ∙ ap (line_at g.T.OfTable.TABLE (g.K.LineKey.numbers c.args.key.now)) c.self.view_is

@@ -5,9 +5,9 @@ use Rattle.std.proofs.Common.{arith}
 -- the entry with the key is gone
 pub invariant_of-self : goal.invariant_of-self
 invariant_of-self g c =
-    taken_are g.K.TableKey.TABLE g.K.Ord.cmp g.K.TableKey.numbers g.met.K.TableKey.compares c.self.inside.lines.entries c.self.invariant c.args.key.now c.remove.new.self.entries c.remove.ensures.entries
+    taken_are g.T.OfTable.TABLE g.K.Ord.cmp g.K.LineKey.numbers g.met.K.LineKey.compares c.self.inside.lines.entries c.self.invariant c.args.key.now c.remove.new.self.entries c.remove.ensures.entries
     (omega (arith, c.remove.ensures.len)) c.remove.ensures.ordered
 
 pub returns-clause-lines : goal.returns-clause-lines
 returns-clause-lines g c =
-    rw (← c.self.view_is) (taken_seen g.K.TableKey.TABLE g.K.Ord.cmp g.K.TableKey.numbers g.met.K.TableKey.compares c.self.inside.lines.entries c.self.invariant c.args.key.now c.remove.new.self.entries c.remove.ensures.entries)
+    rw (← c.self.view_is) (taken_seen g.T.OfTable.TABLE g.K.Ord.cmp g.K.LineKey.numbers g.met.K.LineKey.compares c.self.inside.lines.entries c.self.invariant c.args.key.now c.remove.new.self.entries c.remove.ensures.entries)
