@@ -2,7 +2,8 @@
 # tests/cases.sh [FILE..]: runs of requests over small files, each in a folder of its own, from the tables in tests/cases.
 # A table has cases; each begins with a line `== case NAME`, and has sections `== file NAME`, `== requests` and `== replies`.
 # A section's lines go on to the next one, but for an empty line before the next case. Where its first line ends with
-# `without its last LF`, the LF at its end is left out. A case ends with status 0.
+# `without its last LF`, the LF at its end is left out. Files of alternate names that a case doesn't have are empty, beside the
+# other files of a load and of a day; `== no file NAME` leaves one out. A case ends with status 0.
 set -u
 . "$(dirname "$0")/lib/expect.bash"
 
@@ -20,6 +21,7 @@ cut_up() {
             close(case_folder "/name")
             next
         }
+        /^== no file / { put(); path = ""; print substr($0, 12) > (case_folder "/left_out"); close(case_folder "/left_out"); next }
         /^== file / { begin(case_folder "/files/" substr($0, 9)); next }
         /^== requests/ { begin(case_folder "/requests" substr($0, 12)); next }
         /^== replies/ { begin(case_folder "/replies" substr($0, 11)); next }
@@ -34,6 +36,8 @@ for table in "$@"; do
     mkdir "$cases"
     cut_up "$table" "$cases"
     for one in "$cases"/*/; do
+        no_alternates "$one/files"
+        [ ! -e "$one/left_out" ] || rm "$one/files/$(cat "$one/left_out")"
         (cd "$one/files" && "$program" serve < ../requests > ../got 2> ../errors; echo "status $?" >> ../errors)
         check "$(basename "$table"): $(cat "$one/name")" "$(cat "$one/errors" "$one/got"; echo end)" "$(echo 'status 0'; cat "$one/replies"; echo end)"
     done

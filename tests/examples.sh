@@ -4,7 +4,7 @@ set -u
 . "$(dirname "$0")/lib/expect.bash"
 
 # session COMMAND: what the README shows behind the line `    $ COMMAND`, up to the next command or blank line, without its indent.
-session() { awk -v wanted="    \$ $1" '$0 == wanted { inside = 1; next } inside && (/^$/ || /^    \$ /) { exit } inside { print substr($0, 5) }' "$top/README.md"; }
+session() { wanted="    \$ $1" awk '$0 == ENVIRON["wanted"] { inside = 1; next } inside && (/^$/ || /^    \$ /) { exit } inside { print substr($0, 5) }' "$top/README.md"; }
 
 check scan_of_three_places "$("$program" scan 2 < "$top/examples/three_places.txt")" "$(session './gaz scan 2 < examples/three_places.txt')"
 
@@ -13,6 +13,8 @@ cp "$top"/examples/first_day/* "$folder" && cd "$folder" || exit 1
 check the_first_day "$("$program" serve < requests.txt)" "$(session '$gaz serve < requests.txt')"
 check the_next_run "$("$program" serve <<< 'get 104')" "$(session "\$gaz serve <<< 'get 104'")"
 check a_search "$("$program" serve <<< 'search name_equals=ÉVERMORE')" "$(session "\$gaz serve <<< 'search name_equals=ÉVERMORE'")"
+check a_search_in_german "$("$program" serve <<< $'search name_startsWith=neue\tsearchlang=de')" "$(session "\$gaz serve <<< \$'search name_startsWith=neue\\tsearchlang=de'")"
+check a_search_in_any_language "$("$program" serve <<< 'search name_equals=GROSS-IMMERMEHR')" "$(session "\$gaz serve <<< 'search name_equals=GROSS-IMMERMEHR'")"
 check examples_stay_clean "$(cd "$top/examples" && find . -name 'mirror.*')" ''
 
 finish

@@ -23,6 +23,7 @@ exec 3>&-
 if strace -o "$folder/trace" true 2> /dev/null; then
     cd "$folder" || exit 1
     { row 1 A 1; echo; } > allCountries.txt
+    printf '10\t1\tde\tErste\n' > alternateNamesV2.txt
     printf 'load 2024-03-01\nload 2024-03-01\n' > requests
     loaded=$'ok load 2024-03-01\n'
     # serve_with FILE FAULT: two loads into an empty mirror, where a call on the file meets the fault.
@@ -31,10 +32,30 @@ if strace -o "$folder/trace" true 2> /dev/null; then
         strace -qq -o trace -P "$1" -e "inject=$2" "$program" serve < requests 2> trace.err
         echo "status $?"
     }
-    for fault in openat:error=EACCES:when=1 statx:error=EIO:when=1 pread64:error=EIO:when=1 pread64:error=EIO:when=2; do
-        check "a_file_with_$fault" "$(serve_with allCountries.txt "$fault")" $'refused shelf allCountries.txt\n'"${loaded}status 0"
+    for file in allCountries.txt alternateNamesV2.txt; do
+        for fault in openat:error=EACCES:when=1 statx:error=EIO:when=1 pread64:error=EIO:when=1 pread64:error=EIO:when=2; do
+            check "${file}_with_$fault" "$(serve_with $file "$fault")" "refused shelf $file"$'\n'"${loaded}status 0"
+        done
+        check "an_interrupted_read_of_$file" "$(serve_with $file pread64:error=EINTR:when=1..3)" "$loaded${loaded}status 0"
     done
-    check an_interrupted_read_of_a_file "$(serve_with allCountries.txt pread64:error=EINTR:when=1..3)" "$loaded${loaded}status 0"
+    # The four files of a day, of which each fails once: the day is refused, and the same day is accepted then.
+    mkdir loaded
+    remove_mirror
+    "$program" serve <<< 'load 2024-03-01' > trace.out
+    cp "${mirror[@]}" loaded
+    { row 1 A 2; echo; } > modifications-2024-03-02.txt
+    echo 7 > deletes-2024-03-02.txt
+    printf '11\t1\ten\tOne\n' > alternateNamesModifications-2024-03-02.txt
+    echo 10 > alternateNamesDeletes-2024-03-02.txt
+    printf 'day 2024-03-02\nday 2024-03-02\n' > days
+    for file in modifications-2024-03-02.txt deletes-2024-03-02.txt alternateNamesModifications-2024-03-02.txt alternateNamesDeletes-2024-03-02.txt; do
+        for fault in openat:error=EACCES:when=1 statx:error=EIO:when=1 pread64:error=EIO:when=1 pread64:error=EIO:when=2; do
+            cp loaded/* .
+            strace -qq -o trace -P $file -e "inject=$fault" "$program" serve < days > trace.out 2> trace.err
+            check "${file}_with_$fault" "$? $(cat trace.out)" "0 refused shelf $file"$'\nok day 2024-03-02'
+        done
+    done
+
     check an_interrupted_read "$(serve_with requests read:error=EINTR:when=1..3)" "$loaded${loaded}status 0"
     check a_read_that_fails "$(serve_with requests read:error=EIO:when=1)" 'status 4'
     check a_read_that_fails_at_the_end "$(serve_with requests read:error=EIO:when=2)" "$loaded${loaded}status 4"

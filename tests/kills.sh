@@ -17,13 +17,14 @@ awk -v rows=$rows 'BEGIN { for (id = 1; id <= rows; id++)
     printf "%d\tday 0\tMade place %d\t\t%.5f\t%.5f\tP\tPPL\tAA\t\t%02d\t%03d\t\t\t%d\t\t%d\tEurope/Paris\t2024-02-01\n", id, id, id % 180 - 89.5, id % 360 - 179.75, id % 100, id % 1000, id * 7 % 100000, id % 3000 }' > allCountries.txt
 mapfile -t dates < <(seq 0 $((kills + 1)) | sed 's/.*/2024-03-01 + & days/' | date -f - +%F)
 
-# files_of_day NUMBER: makes the two files of the day.
+# files_of_day NUMBER: makes the files of the day.
 files_of_day() {
     local added=$((rows + $1))
     awk -F '\t' -v OFS='\t' -v day="$1" 'NR % 20 == 0 { $2 = "day " day; print }' allCountries.txt > "modifications-${dates[$1]}.txt"
     row $added "day $1" 1 >> "modifications-${dates[$1]}.txt"
     echo >> "modifications-${dates[$1]}.txt"
     printf '%d\tday 0\tgone\n' $((20 * $1 + 1)) > "deletes-${dates[$1]}.txt"
+    no_alternates
 }
 
 # answers_after APPLIED NUMBER: what is to be answered to the requests of the day with this number after so many days.
@@ -69,6 +70,7 @@ killed_within() {
     status=$?
 }
 
+no_alternates
 expect a_load 0 $'ok load 2024-03-01\n' serve <<< 'load 2024-03-01'
 begin_day 1
 
@@ -125,6 +127,6 @@ echo "seed $seed, $took microseconds a run: $unacknowledged kills before the ack
     "$open_gates left the gate open; $applied_unacknowledged days were found applied though not acknowledged, $((day - 1)) in all"
 check some_kill_before_the_acknowledgement $((unacknowledged > 0)) 1
 check some_kill_inside_a_run $((unacknowledged + acknowledged > 0)) 1
-check only_the_mirror_was_made "$(ls -A | grep -v -e '^allCountries.txt$' -e '^modifications-' -e '^deletes-')" "$(printf '%s\n' "${mirror[@]}")"
+check only_the_mirror_was_made "$(made_files)" "$(printf '%s\n' "${mirror[@]}")"
 
 finish

@@ -13,9 +13,10 @@ zeros() { head -c "$1" /dev/zero; }
 # lines LINE..: each with an LF.
 lines() { [ $# -eq 0 ] || printf '%s\n' "$@"; }
 
-# root AREA LENGTH DATE ROWS: a root page that names a text: the number of its area, its length in bytes, the last byte of the
-# date's number, and how many rows. 2024-03-01 is the day 739,311, which is 0x0b47ef: Python's date.toordinal() and 365.
-root() { bytes 6 0 0 0 "$1" 0 0 0 0 0 0 0 0 0 0 "$2" 0 0 0 0 0 11 71 "$3" 0 0 0 "$4"; zeros 4068; }
+# root AREA LENGTH DATE ROWS [ALTERNATES]: a root page that names a text: the number of its area, its length in bytes, the last
+# byte of the date's number, how many rows, and how many alternates, none where that isn't said. 2024-03-01 is the day 739,311, which
+# is 0x0b47ef: Python's date.toordinal() and 365.
+root() { bytes 6 0 0 0 "$1" 0 0 0 0 0 0 0 0 0 0 "$2" 0 0 0 0 0 11 71 "$3" 0 0 0 "$4" 0 0 0 "${5:-0}"; zeros 4064; }
 # root_with AT BYTE: a page of three rows in Left with another byte at a place.
 root_with() { root 3 120 239 3 | head -c "$1"; bytes "$2"; root 3 120 239 3 | tail -c +$(($1 + 2)); }
 
@@ -29,6 +30,7 @@ lines "$x2" > modifications-2024-03-02.txt
 printf '3\tC\tgone\n' > deletes-2024-03-02.txt
 lines "$d4" > modifications-2024-03-03.txt
 : > deletes-2024-03-03.txt
+no_alternates
 # areas_are ROOT LEFT RIGHT: the files' bytes, each a file's name; no text where it is empty.
 areas_are() {
     check "$1 the gate" "$(od -An -tu1 mirror.mark)" '   0'
@@ -99,6 +101,33 @@ opens text_in_right root_and_more one_byte text_and_more "$a1"$'\nok 1\n'"$x2"$'
 root 3 0 239 0 > root_of_none
 zeros 4096 > a_page
 opens no_row_with_a_date root_of_none a_page none $'ok 0\nok 0\nok 0\nrefused sequence 2024-03-01'
+
+# A mirror that was made before there were alternate names has rows alone, in the same version of the root page: it is opened, its
+# list of alternates is empty, and a day puts some into it, behind the rows.
+e1=$'10\t1\tde\tEins' z2=$'11\t2\tde\tZwei'
+fresh earlier
+cp ../root_of_three mirror.root
+cp ../three mirror.left
+lines "$z2" > alternateNamesModifications-2024-03-02.txt
+: | tee modifications-2024-03-02.txt deletes-2024-03-02.txt > alternateNamesDeletes-2024-03-02.txt
+check an_earlier_mirror "$("$program" serve <<< $'search name_equals=b\nsearch name_equals=zwei\nday 2024-03-02\nsearch name_equals=zwei\tsearchlang=de'; echo "status $?")" \
+    "$b2"$'\nok 1\nok 0\nok day 2024-03-02\n'"$b2"$'\nok 1\nstatus 0'
+root 4 133 240 3 1 > ../r
+lines "$a1" "$b2" "$c3" > ../l
+lines "$a1" "$b2" "$c3" "$z2" > ../m
+areas_are a_day_over_an_earlier_mirror ../r ../l ../m
+check it_is_found_again "$("$program" serve <<< 'search name_equals=zwei')" "$b2"$'\nok 1'
+cd ..
+
+# Rows and alternates, one list behind the other.
+root 3 106 239 2 2 > root_of_both
+{ zeros 4096; lines "$a1" "$b2" "$e1" "$z2"; } > both
+fresh both_lists
+cp ../root_of_both mirror.root
+cp ../both mirror.left
+check both_lists "$("$program" serve <<< $'search name_equals=eins\nsearch name_equals=zwei\nsearch'; echo "status $?")" "$a1"$'\nok 1\n'"$b2"$'\nok 1\n'"$b2"$'\n'"$a1"$'\nok 2\nstatus 0'
+cd ..
+
 # Fewer bytes than a page are no root page.
 nothing=$'refused notloaded\nrefused notloaded\nrefused notloaded\nrefused notloaded'
 head -c 4095 root_of_three > cut_root
@@ -116,11 +145,12 @@ check a_gate_of_2 "$("$program" serve <<< 'get 1'; echo "status $?")" $'refused 
 cd ..
 
 # Texts that aren't as the root says.
-# text_of NAME LENGTH ROWS LINE..: a root page of this length and number, and these lines in Left.
+# hostile_text NAME LENGTH COUNTS LINE..: a root page of this length and these numbers, and these lines in Left.
 hostile_text() {
-    local name=$1 length=$2 rows=$3
+    local name=$1 length=$2 counts=$3
     shift 3
-    root 3 "$length" 239 "$rows" > hostile_root
+    # shellcheck disable=SC2086 # the counts are words
+    root 3 "$length" 239 $counts > hostile_root
     { zeros 4096; lines "$@"; } > hostile_left
     refuses "$name" hostile_root hostile_left
 }
@@ -134,6 +164,14 @@ hostile_text 'an id twice' 120 3 "$a1" "$b2" "$x2"
 hostile_text 'a row with a column too few' 119 3 "$a1" "$b2" "${c3/$'\t\t\t\t2024'/$'\t\t\t2024'}"
 hostile_text "a name that isn't UTF-8" 120 3 "$a1" "$b2" "${c3/C/$'\xff'}"
 hostile_text 'an empty line' 81 3 "$a1" "$b2" ''
+hostile_text 'alternates out of order' 106 '2 2' "$a1" "$b2" "$z2" "$e1"
+hostile_text 'an alternate twice' 106 '2 2' "$a1" "$b2" "$e1" "$e1"
+hostile_text 'an alternate among the rows' 106 '3 1' "$a1" "$b2" "$e1" "$z2"
+hostile_text 'a row among the alternates' 106 '1 3' "$a1" "$b2" "$e1" "$z2"
+hostile_text 'alternates before rows' 106 '2 2' "$e1" "$z2" "$a1" "$b2"
+hostile_text 'an alternate more than counted' 106 '2 1' "$a1" "$b2" "$e1" "$z2"
+hostile_text 'an alternate fewer than counted' 106 '2 3' "$a1" "$b2" "$e1" "$z2"
+hostile_text 'an alternate without a place' 105 '2 2' "$a1" "$b2" "$e1" $'11\t\tde\tZwei'
 
 # Root pages that are none, or that name another text.
 hostile_root() {
@@ -176,6 +214,7 @@ made() { awk -v last="$1" -v step="$2" -v more="$3" -v line="$(row '' 'Place ' '
 made 2000 1 0 > allCountries.txt
 made 2000 10 1000000 > modifications-2024-03-02.txt
 seq 100 100 2000 > deletes-2024-03-02.txt
+no_alternates
 seq 1 2000 | sed 's/^/get /' > ../gets
 sed 's/$/\nok 1/' allCountries.txt > ../loaded
 awk -F '\t' 'NR == FNR { changed[$1] = $0; next } $1 % 100 == 0 { print "ok 0"; next } { print ($1 in changed) ? changed[$1] : $0; print "ok 1" }' modifications-2024-03-02.txt allCountries.txt > ../changed

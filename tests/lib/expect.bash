@@ -39,6 +39,22 @@ check() {
 # row ID NAME POPULATION: a geoname line of class P in country AA, without its LF.
 row() { printf '%s\t%s\t\t\t0\t0\tP\tPPL\tAA\t\t\t\t\t\t%s\t\t\t\t2024-02-01' "$1" "$2" "$3"; }
 
+# no_alternates [FOLDER]: makes the files of alternate names empty, beside the others of a load and of each day in this folder, but
+# for those that are there.
+no_alternates() {
+    local at=${1:-.} file date kind
+    [ ! -e "$at/allCountries.txt" ] || [ -e "$at/alternateNamesV2.txt" ] || : > "$at/alternateNamesV2.txt"
+    for file in "$at"/modifications-*.txt; do
+        date=${file##*/modifications-}
+        for kind in alternateNamesModifications alternateNamesDeletes; do
+            [ ! -e "$file" ] || [ -e "$at/$kind-$date" ] || : > "$at/$kind-$date"
+        done
+    done
+}
+
+# made_files: the files of this folder but for those of the export.
+made_files() { ls -A | grep -v -e '^allCountries.txt$' -e '^modifications-' -e '^deletes-' -e '^alternateNames'; }
+
 finish() {
     echo "$passed passed, $failed failed"
     [ "$failed" = 0 ]

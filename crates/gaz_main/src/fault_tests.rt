@@ -3,7 +3,10 @@ use crate::runs::{
     FILES, REPLIES, REQUESTS, acknowledged, are_kept, changes_after, changes_found, is_synced,
     replies_within, serve_on,
 };
-use crate::worked::{OneByte, shelf_of, source_of, station_of, words_of};
+use crate::worked::{
+    ALT_DELETES, ALT_MODIFICATIONS, ALTERNATES, B2, C3, DELETES, DUMP, MODIFICATIONS, OneByte,
+    joined, shelf_of, source_of, station_of, words_of,
+};
 use gaz_outside::{MemStation, Source};
 use gaz_serve::serve;
 use std::alloc::{AllocError, Global};
@@ -40,46 +43,85 @@ fn run_over_a_failing_shelf(alloc: Global, call: u64) -> Result<(MemStation, u8)
     Ok((station, status))
 }
 
-/// What is told where the dump, the modifications or the deletes can't be read.
-const NO_DUMP: &[u8] =
-    b"refused shelf allCountries.txt\nrefused notloaded\nrefused notloaded\nrefused notloaded\n";
+/// What is told where this file can't be read, which is one of the load where no change is made, and else one of the day.
+fn told_without(alloc: Global, file: &str, changes: u64) -> Result<Vec<u8>, AllocError> {
+    if changes == 0 {
+        joined(
+            alloc,
+            &[
+                "refused shelf ",
+                file,
+                "\nrefused notloaded\nrefused notloaded\nrefused notloaded\n",
+            ],
+        )
+    } else {
+        joined(
+            alloc,
+            &[
+                "ok load 2024-03-01\nrefused shelf ",
+                file,
+                "\n",
+                B2,
+                "ok 1\n",
+                C3,
+                "ok 1\n",
+            ],
+        )
+    }
+}
 
-const NO_MODIFICATIONS: &[u8] =
-    b"ok load 2024-03-01\nrefused shelf modifications-2024-03-02.txt\n2\tB\t\t\t0\t0\tP\tPPL\tAA\t\t\t\t\t\t2\t\t\t\t2024-02-01\nok 1\n3\tC\t\t\t0\t0\tP\tPPL\tAA\t\t\t\t\t\t3\t\t\t\t2024-02-01\nok 1\n";
+/// The calls of the shelf: a load and a day open their files, and then read each twice, up to its end.
+const CALLS: [(u64, &str, u64); 18] = [
+    (1, DUMP, 0),
+    (2, ALTERNATES, 0),
+    (3, DUMP, 0),
+    (4, DUMP, 0),
+    (5, ALTERNATES, 0),
+    (6, ALTERNATES, 0),
+    (7, MODIFICATIONS, 1),
+    (8, DELETES, 1),
+    (9, ALT_MODIFICATIONS, 1),
+    (10, ALT_DELETES, 1),
+    (11, MODIFICATIONS, 1),
+    (12, MODIFICATIONS, 1),
+    (13, DELETES, 1),
+    (14, DELETES, 1),
+    (15, ALT_MODIFICATIONS, 1),
+    (16, ALT_MODIFICATIONS, 1),
+    (17, ALT_DELETES, 1),
+    (18, ALT_DELETES, 1),
+];
 
-const NO_DELETES: &[u8] =
-    b"ok load 2024-03-01\nrefused shelf deletes-2024-03-02.txt\n2\tB\t\t\t0\t0\tP\tPPL\tAA\t\t\t\t\t\t2\t\t\t\t2024-02-01\nok 1\n3\tC\t\t\t0\t0\tP\tPPL\tAA\t\t\t\t\t\t3\t\t\t\t2024-02-01\nok 1\n";
+/// The run over a shelf whose call with this number fails tells this text, and leaves so many changes.
+fn expect_told(
+    rt: &impl Abort,
+    alloc: Global,
+    call: u64,
+    text: &[u8],
+    changes: u64,
+) -> Result<(), Fail> {
+    let (mut station, status) = run_over_a_failing_shelf(alloc, call)?;
+    assert_eq!(rt; status, 0, "call {call}");
+    assert_eq!(rt; station.printed(), text, "call {call}");
+    assert!(rt; is_synced(&station)?, "call {call}");
+    assert_eq!(rt;
+        changes_found(alloc, &mut station)?,
+        Some(changes),
+        "call {call}"
+    );
+    Ok(())
+}
 
-/// A load opens its file and reads it twice, up to its end. A day opens both of its files, and reads each twice.
 #[test]
 fn each_call_of_the_shelf_that_fails_refuses_its_request_alone(
     rt: HostRuntime,
 ) -> Result<(), Fail> {
     let alloc = rt.alloc();
-    let cases: [(u64, &[u8], u64); 10] = [
-        (1, NO_DUMP, 0),
-        (2, NO_DUMP, 0),
-        (3, NO_DUMP, 0),
-        (4, NO_MODIFICATIONS, 1),
-        (5, NO_DELETES, 1),
-        (6, NO_MODIFICATIONS, 1),
-        (7, NO_MODIFICATIONS, 1),
-        (8, NO_DELETES, 1),
-        (9, NO_DELETES, 1),
-        (10, REPLIES, 2),
-    ];
-    for (call, text, changes) in cases {
-        let (mut station, status) = run_over_a_failing_shelf(alloc, call)?;
-        assert_eq!(rt; status, 0, "call {call}");
-        assert_eq!(rt; station.printed(), text, "call {call}");
-        assert!(rt; is_synced(&station)?, "call {call}");
-        assert_eq!(rt;
-            changes_found(alloc, &mut station)?,
-            Some(changes),
-            "call {call}"
-        );
+    for (call, file, changes) in CALLS {
+        let text = told_without(alloc, file, changes)?;
+        expect_told(&rt, alloc, call, &text, changes)?;
     }
-    Ok(())
+    expect_told(&rt, alloc, 19, REPLIES, 2)
 }
 
 /// Runs the requests over this source, and answers the station and the status.

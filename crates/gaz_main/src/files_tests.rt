@@ -1,7 +1,8 @@
 //! Runs during which the files in the folder change: each request meets them as they are during it.
 use crate::runs::FILES;
 use crate::worked::{
-    A1, B2, DELETES, DUMP, File, MODIFICATIONS, X2, joined, source_of, station_of, words_of,
+    A1, ALT_DELETES, ALT_MODIFICATIONS, ALTERNATES, B2, DELETES, DUMP, File, MODIFICATIONS, X2,
+    joined, source_of, station_of, words_of,
 };
 use gaz_outside::{MemShelf, MemStation};
 use gaz_serve::serve;
@@ -35,24 +36,30 @@ fn run_over(
     Ok((station, status))
 }
 
-/// A day's files come between two requests of one run: first the modifications, then the deletes.
+/// A day's files come between two requests of one run, one after another.
 #[test]
 fn files_of_a_day_come_between_two_requests(rt: HostRuntime) -> Result<(), Fail> {
     let alloc = rt.alloc();
+    let all: &[File<'_>] = &[
+        (MODIFICATIONS, &[X2]),
+        (DELETES, &[]),
+        (ALT_MODIFICATIONS, &[]),
+        (ALT_DELETES, &[]),
+    ];
     let mut later = Vec::new(alloc);
-    later.push(listed(alloc, &[(DUMP, &[A1, B2])])?)?;
-    later.push(listed(alloc, &[(MODIFICATIONS, &[X2])])?)?;
-    later.push(listed(alloc, &[(MODIFICATIONS, &[X2]), (DELETES, &[])])?)?;
+    for count in 0..=all.len() {
+        later.push(listed(alloc, &all[..count])?)?;
+    }
     let (station, status) = run_over(
         alloc,
-        listed(alloc, &[(DUMP, &[A1, B2])])?,
+        listed(alloc, &[(DUMP, &[A1, B2]), (ALTERNATES, &[])])?,
         later,
-        b"load 2024-03-01\nday 2024-03-02\nday 2024-03-02\nday 2024-03-02\nget 2\n",
+        b"load 2024-03-01\nday 2024-03-02\nday 2024-03-02\nday 2024-03-02\nday 2024-03-02\nday 2024-03-02\nget 2\n",
     )?;
     assert_eq!(rt; status, 0);
     assert_eq!(rt;
         station.printed(),
-        b"ok load 2024-03-01\nrefused absent modifications-2024-03-02.txt\nrefused absent deletes-2024-03-02.txt\nok day 2024-03-02\n2\tX\t\t\t0\t0\tP\tPPL\tAA\t\t\t\t\t\t9\t\t\t\t2024-02-01\nok 1\n".as_slice()
+        b"ok load 2024-03-01\nrefused absent modifications-2024-03-02.txt\nrefused absent deletes-2024-03-02.txt\nrefused absent alternateNamesModifications-2024-03-02.txt\nrefused absent alternateNamesDeletes-2024-03-02.txt\nok day 2024-03-02\n2\tX\t\t\t0\t0\tP\tPPL\tAA\t\t\t\t\t\t9\t\t\t\t2024-02-01\nok 1\n".as_slice()
     );
     Ok(())
 }
@@ -62,7 +69,7 @@ fn files_of_a_day_come_between_two_requests(rt: HostRuntime) -> Result<(), Fail>
 fn dump_is_replaced_between_two_loads(rt: HostRuntime) -> Result<(), Fail> {
     let alloc = rt.alloc();
     let mut later = Vec::new(alloc);
-    later.push(listed(alloc, &[(DUMP, &[X2])])?)?;
+    later.push(listed(alloc, &[(DUMP, &[X2]), (ALTERNATES, &[])])?)?;
     later.push(Vec::new(alloc))?;
     let (station, status) = run_over(
         alloc,

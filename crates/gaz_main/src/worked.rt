@@ -15,9 +15,15 @@ pub(crate) const X2: &str = "2\tX\t\t\t0\t0\tP\tPPL\tAA\t\t\t\t\t\t9\t\t\t\t2024
 
 pub(crate) const DUMP: &str = "allCountries.txt";
 
+pub(crate) const ALTERNATES: &str = "alternateNamesV2.txt";
+
 pub(crate) const MODIFICATIONS: &str = "modifications-2024-03-02.txt";
 
 pub(crate) const DELETES: &str = "deletes-2024-03-02.txt";
+
+pub(crate) const ALT_MODIFICATIONS: &str = "alternateNamesModifications-2024-03-02.txt";
+
+pub(crate) const ALT_DELETES: &str = "alternateNamesDeletes-2024-03-02.txt";
 
 /// A file by its name and the texts of which it is made.
 pub(crate) type File<'a> = (&'a str, &'a [&'a str]);

@@ -45,7 +45,10 @@ pub fn write_file_name(name: FileName, out: &mut [u8; 48]) -> usize
     match name {
         FileName::Input => put(out, 0, b"-"),
         FileName::Rows => put(out, 0, b"allCountries.txt"),
+        FileName::Alternates => put(out, 0, b"alternateNamesV2.txt"),
         FileName::Modifications(day) => put_daily(out, b"modifications-", day),
         FileName::Deletes(day) => put_daily(out, b"deletes-", day),
+        FileName::AltModifications(day) => put_daily(out, b"alternateNamesModifications-", day),
+        FileName::AltDeletes(day) => put_daily(out, b"alternateNamesDeletes-", day),
     }
 }

@@ -11,14 +11,15 @@ use Rattle.gaz_outside.specs.declared.station.Area.TheVariants as area
 use Rattle.gaz_outside.specs.Station.{overlaid}
 use Rattle.gaz_num.specs.declared.words.Reason.{Reason}
 use Rattle.gaz_num.specs.declared.words.Reason.TheVariants.{Length}
-use Rattle.gaz_num.specs.declared.words.Table.TheVariants.{Rows}
-use Rattle.gaz_num.specs.declared.words.Kind.TheVariants.{Row}
+use Rattle.gaz_num.specs.declared.words.Table.{Table}
+use Rattle.gaz_num.specs.declared.words.Table.TheVariants.{Rows, Alternates}
+use Rattle.gaz_num.specs.declared.words.Kind.{Kind}
 use Rattle.gaz_num.specs.Numbers.{some_if}
 use Rattle.gaz_num.specs.Check.{reason_against, first_failing, tests, line_limit}
 use Rattle.gaz_num.specs.Pieces.{pieces, all_but_last, last_if_any, ended_lines}
 use Rattle.gaz_lines.specs.Lines as cut
 use Rattle.gaz_lines.proofs.Pieces.{pieces_line}
-use Rattle.gaz_plain.specs.Gazetteer.{Gazetteer, IsLine, IsTable, IsGazetteer, empty, in_tables, is_one_line}
+use Rattle.gaz_plain.specs.Gazetteer.{Gazetteer, IsLine, IsTable, IsGazetteer, empty, in_tables, is_one_line, kind_in, lines_in, limit_of}
 use Rattle.gaz_plain.specs.Text.{lined, all_lines, text_of, has_no_line, is_dated_gazetteer}
 use Rattle.gaz_plain.proofs.TextTests.{gazetteer_told}
 use Rattle.gaz_page.specs.declared.page.Side.{Side}
@@ -28,6 +29,7 @@ use Rattle.gaz_page.proofs.Written.{root_back}
 use Rattle.gaz_redo.specs.Slots.{StartsWith}
 use Rattle.gaz_redo.specs.Content.{Contents, is_open, three}
 use Rattle.gaz_redo.proofs.Phases.{content_closed}
+use Rattle.gaz_open.specs.Tables.{tables, lines_of}
 use Rattle.gaz_open.specs.Content.{mirror_in, gaz_in, gaz_of, named_by, text_at, side_bytes, side_area, root_of, counts_of, total, cut_by, fits_root, is_whole, written, HasText, IsKept}
 
 -- an area's bytes among three
@@ -46,9 +48,9 @@ line_from_test (b ∷ line) h =
     let parts = no_lf b (list_any (λ byte. byte == 10) line) (b == 10) refl h in
     (parts.0, line_from_test line parts.1)
 
-rows_are_lines : (rows : List (List ℕ)) → AllByRecursion (IsLine Row) rows → AllByRecursion cut.IsLine rows
-rows_are_lines [] are = tt
-rows_are_lines (row ∷ rows) are = (line_from_test row are.0.one_line, rows_are_lines rows are.1)
+each_is_line : (kind : Kind) (lines : List (List ℕ)) → AllByRecursion (IsLine kind) lines → AllByRecursion cut.IsLine lines
+each_is_line kind [] are = tt
+each_is_line kind (line ∷ lines) are = (line_from_test line are.0.one_line, each_is_line kind lines are.1)
 
 -- whole lines are cut where they were joined
 pieces_lined : (lines : List (List ℕ)) → AllByRecursion cut.IsLine lines → pieces 10 (lined lines) ≡ lines ++ [] ∷ []
@@ -136,17 +138,27 @@ cut_back side date gaz dated =
     let codes = fifth_back gaz.rows gaz.alternates gaz.links gaz.countries gaz.codes in
     λ i. record { date = sym dated i; rows = rows i; alternates = alternates i; links = links i; countries = countries i; codes = codes i }
 
--- so far a gazetteer has rows alone
-pub all_rows : (gaz : Gazetteer) → IsGazetteer gaz → all_lines gaz ≡ gaz.rows
-all_rows gaz is =
+-- the lines of a gazetteer are those of its tables
+pub all_listed : (gaz : Gazetteer) → IsGazetteer gaz → all_lines gaz ≡ lines_of tables gaz
+all_listed gaz is =
     ap all_lines is.no_more
-    ∙ append-nil (gaz.rows ++ [] ++ [] ++ []) ∙ append-nil (gaz.rows ++ [] ++ []) ∙ append-nil (gaz.rows ++ []) ∙ append-nil gaz.rows
+    ∙ append-nil (gaz.rows ++ gaz.alternates ++ [] ++ []) ∙ append-nil (gaz.rows ++ gaz.alternates ++ []) ∙ append-nil (gaz.rows ++ gaz.alternates)
+    ∙ ap (λ (ls : List (List ℕ)). gaz.rows ++ ls) (sym (append-nil gaz.alternates))
 
-pub row_lines : (gaz : Gazetteer) → IsGazetteer gaz → AllByRecursion (IsLine Row) gaz.rows
-row_lines gaz is = let table : IsTable Rows gaz.rows = is.tables Rows in recursion_from_All (IsLine Row) gaz.rows table.each
+pub table_lines : (table : Table) (gaz : Gazetteer) → IsGazetteer gaz → AllByRecursion (IsLine (kind_in table)) (lines_in gaz table)
+table_lines table gaz is = let lines : IsTable table (lines_in gaz table) = is.tables table in recursion_from_All (IsLine (kind_in table)) (lines_in gaz table) lines.each
+
+both_lines : (xs ys : List (List ℕ)) → AllByRecursion cut.IsLine xs → AllByRecursion cut.IsLine ys → AllByRecursion cut.IsLine (xs ++ ys)
+both_lines [] ys first second = second
+both_lines (x ∷ xs) ys first second = (first.0, both_lines xs ys first.1 second)
+
+listed_lines : (all : List Table) (gaz : Gazetteer) → IsGazetteer gaz → AllByRecursion cut.IsLine (lines_of all gaz)
+listed_lines [] gaz is = tt
+listed_lines (table ∷ others) gaz is =
+    both_lines (lines_in gaz table) (lines_of others gaz) (each_is_line (kind_in table) (lines_in gaz table) (table_lines table gaz is)) (listed_lines others gaz is)
 
 pub are_lines : (gaz : Gazetteer) → IsGazetteer gaz → AllByRecursion cut.IsLine (all_lines gaz)
-are_lines gaz is = subst (AllByRecursion cut.IsLine) (sym (all_rows gaz is)) (rows_are_lines gaz.rows (row_lines gaz is))
+are_lines gaz is = subst (AllByRecursion cut.IsLine) (sym (all_listed gaz is)) (listed_lines tables gaz is)
 
 -- how long a text may be
 some_none : (reason : Reason) → Some reason ≡ None → ⊥
@@ -156,28 +168,54 @@ first_passes : (a : Bool) (rest : Option Reason) → (if a then rest else Some L
 first_passes true rest h = refl
 first_passes false rest h = absurd (some_none Length h)
 
-line_fits : (line : List ℕ) → reason_against Row line ≡ None → length line ≤ 65535
+line_fits : (kind : Kind) (line : List ℕ) → reason_against kind line ≡ None → length line ≤ 65535
 unfolding reason_against
-line_fits line h =
-    let test = first_passes (nat_le (length line) line_limit) (first_failing ((_, is_utf8 line) ∷ tests Row line)) h in
+line_fits kind line h =
+    let test = first_passes (nat_le (length line) line_limit) (first_failing ((_, is_utf8 line) ∷ tests kind line)) h in
     grind (arith, nat_tests)
 
-pub length-lined : (rows : List (List ℕ)) → AllByRecursion (IsLine Row) rows → length (lined rows) ≤ 65536 * length rows
-length-lined [] are = omega arith
-length-lined (row ∷ rows) are =
-    let first = line_fits row are.0.accepted in
-    let more = length-lined rows are.1 in
-    let all = length-append (row ++ 10 ∷ []) (lined rows) in
-    let one = length-append row (10 ∷ []) in
+pub length-lined : (kind : Kind) (lines : List (List ℕ)) → AllByRecursion (IsLine kind) lines → length (lined lines) ≤ 65536 * length lines
+length-lined kind [] are = omega arith
+length-lined kind (line ∷ lines) are =
+    let first = line_fits kind line are.0.accepted in
+    let more = length-lined kind lines are.1 in
+    let all = length-append (line ++ 10 ∷ []) (lined lines) in
+    let one = length-append line (10 ∷ []) in
     omega (arith, first, more, all, one)
 
-pub text_short : (gaz : Gazetteer) → IsGazetteer gaz → length (text_of gaz) < 2 ^ 42
+limit_fits : (table : Table) → limit_of table ≤ 2 ^ 25
+limit_fits Rows = omega arith
+limit_fits Alternates = omega arith
+
+-- how long the text of a table may be, and that of several
+pub table_short : (table : Table) (gaz : Gazetteer) → IsGazetteer gaz → length (lined (lines_in gaz table)) ≤ 2 ^ 41
+table_short table gaz is =
+    let lines : IsTable table (lines_in gaz table) = is.tables table in
+    let long = length-lined (kind_in table) (lines_in gaz table) (table_lines table gaz is) in
+    let few = lines.within in
+    let limit = limit_fits table in
+    omega (arith, long, few, limit)
+
+pub lined_both : (xs ys : List (List ℕ)) → lined (xs ++ ys) ≡ lined xs ++ lined ys
+lined_both [] ys = refl
+lined_both (x ∷ xs) ys = ap (λ (text : List ℕ). x ++ 10 ∷ [] ++ text) (lined_both xs ys) ∙ sym (append_assoc (x ++ 10 ∷ []) (lined xs) (lined ys))
+
+pub tables_short : (all : List Table) (gaz : Gazetteer) → IsGazetteer gaz → length (lined (lines_of all gaz)) ≤ 2 ^ 41 * length all
+tables_short [] gaz is = omega arith
+tables_short (table ∷ others) gaz is =
+    let first = table_short table gaz is in
+    let more = tables_short others gaz is in
+    let both = ap length (lined_both (lines_in gaz table) (lines_of others gaz)) in
+    omega (arith, first, more, both, length-append (lined (lines_in gaz table)) (lined (lines_of others gaz)))
+
+pub text_short : (gaz : Gazetteer) → IsGazetteer gaz → length (text_of gaz) < 2 ^ 44
 text_short gaz is =
-    let table : IsTable Rows gaz.rows = is.tables Rows in
-    let long = length-lined gaz.rows (row_lines gaz is) in
-    let few = table.within in
-    let same = ap (λ (lines : List (List ℕ)). length (lined lines)) (all_rows gaz is) in
-    omega (arith, long, few, same)
+    let long = tables_short tables gaz is in
+    let same = ap (λ (lines : List (List ℕ)). length (lined lines)) (all_listed gaz is) in
+    omega (arith, long, same)
+
+table_few : (table : Table) (gaz : Gazetteer) → IsGazetteer gaz → length (lines_in gaz table) < 2 ^ 32
+table_few table gaz is = let lines : IsTable table (lines_in gaz table) = is.tables table in let few = lines.within in let limit = limit_fits table in omega (arith, few, limit)
 
 none_long : (lists : Gazetteer → List (List ℕ)) (gaz : Gazetteer) → IsGazetteer gaz → lists (in_tables gaz) ≡ [] → length (lists gaz) < 2 ^ 32
 none_long lists gaz is none = let same = ap length (ap lists is.no_more ∙ none) in omega (arith, same)
@@ -185,14 +223,12 @@ none_long lists gaz is none = let same = ap length (ap lists is.no_more ∙ none
 pub fits_page : (side : Side) (date : ℕ) (gaz : Gazetteer) → IsKept date gaz → FitsPage (root_of side date gaz)
 fits_page side date gaz kept =
     let is = kept.is_gazetteer in
-    let table : IsTable Rows gaz.rows = is.tables Rows in
-    let few = table.within in
     let short = text_short gaz is in
     record {
       length = omega (arith, short);
       day = kept.real;
-      rows = omega (arith, few);
-      alternates = none_long (λ g. g.alternates) gaz is refl;
+      rows = table_few Rows gaz is;
+      alternates = table_few Alternates gaz is;
       links = none_long (λ g. g.links) gaz is refl;
       countries = none_long (λ g. g.countries) gaz is refl;
       codes = none_long (λ g. g.codes) gaz is refl;

@@ -19,7 +19,7 @@ use Rattle.gaz_num.specs.Numbers.{some_if}
 use Rattle.gaz_page.specs.Root.{root_in, page_in}
 use Rattle.gaz_page.specs.declared.root.PlainRoot.{PlainRoot}
 use Rattle.gaz_page.specs.declared.page.Side.{Side}
-use Rattle.gaz_open.specs.Content.{mirror_in, Mirrors, SameMirror, gaz_in, gaz_of, named_by, side_area, text_at}
+use Rattle.gaz_open.specs.Content.{mirror_in, SameMirror, gaz_in, gaz_of, named_by, side_area, text_at}
 use Rattle.gaz_open.specs.Fits.{Fits, HasStable, Names}
 use Rattle.gaz_open.proofs.Back.{mirror_closed, side_three}
 use Rattle.gaz_open.specs.Opens.{HasNoLog, IsSettled, NothingToRedo, text_pieces, content_pieces}

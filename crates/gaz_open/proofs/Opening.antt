@@ -1,5 +1,5 @@
 -- An opening, from its parts.
-use Rattle.std.proofs.Common.{Bool, IsTrue, ◌≡◌, ◌+◌, ◌≤◌, ℕ, List, sym, ◌∙◌, subst, arith}
+use Rattle.std.proofs.Common.{IsTrue, ◌≡◌, ◌+◌, ◌≤◌, ℕ, ◌∙◌, arith}
 use Rattle.gaz_outside.specs.declared.station.Area.{Area}
 use Rattle.gaz_outside.specs.Station.{StationView, Confined, Counts, LeavesOnly}
 use Rattle.gaz_redo.specs.Slots.{SameBytes}

@@ -1,5 +1,5 @@
 -- What the outcomes of a moment hold.
-use Rattle.std.specs.Prelude.{◌≡◌, ◌⊎◌, Some}
+use Rattle.std.specs.Prelude.{◌≡◌, ◌⊎◌}
 use Rattle.gaz_outside.specs.Station.{StationView, Outcome, Leaves}
 use Rattle.gaz_plain.specs.Gazetteer.{Gazetteer}
 use Rattle.gaz_open.specs.Content.{Mirrors, SameMirror}

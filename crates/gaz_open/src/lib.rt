@@ -18,4 +18,5 @@ pub use fault::{OpenFault, Place};
 pub use find::Found;
 pub use law::{areas_mirror, written_is_read};
 pub use open::{PlainMirror, open_plain};
+pub use parse::tables_in_text;
 pub use side::{area_of, idle_side};

@@ -42,6 +42,18 @@ one name bytes asked = if bytes_eq name asked then Some bytes else None
 abbrev beside : List ℕ → List ℕ → Files → Files
 beside name bytes files asked = if bytes_eq name asked then Some bytes else files asked
 
+-- the files of a load, of which that of the alternate names is empty
+abbrev loaded_from : List ℕ → Files
+loaded_from rows = beside (codes "allCountries.txt") rows (one (codes "alternateNamesV2.txt") [])
+
+-- the files of a day, of which those of the alternate names are empty
+abbrev changed_by : List ℕ → List ℕ → Files
+changed_by rows deletes =
+    beside (codes "modifications-0000-01-07.txt") rows
+    (beside (codes "deletes-0000-01-07.txt") deletes
+    (beside (codes "alternateNamesModifications-0000-01-07.txt") []
+    (one (codes "alternateNamesDeletes-0000-01-07.txt") [])))
+
 -- a row goes between those with lesser and greater ids
 put_between : step (gazetteer 5 (a1 ∷ c3 ∷ [])) Row b2 ≡ gazetteer 5 (a1 ∷ b2 ∷ c3 ∷ [])
 put_between = refl
@@ -73,11 +85,11 @@ unfolding reason_against is_utf8 chars encode
 accepted = refl
 
 -- out of order, and one twice: the later stands
-loaded : load (one (codes "allCountries.txt") (c3 ++ codes "\n" ++ b2 ++ codes "\n" ++ a1 ++ codes "\n" ++ x2)) 5 ≡ Ok (gazetteer 5 (a1 ∷ x2 ∷ c3 ∷ []))
+loaded : load (loaded_from (c3 ++ codes "\n" ++ b2 ++ codes "\n" ++ a1 ++ codes "\n" ++ x2)) 5 ≡ Ok (gazetteer 5 (a1 ∷ x2 ∷ c3 ∷ []))
 unfolding load after_line reason_against is_utf8 chars encode
 loaded = refl
 
-empty_load : load (one (codes "allCountries.txt") []) 5 ≡ Ok (dated empty 5)
+empty_load : load (loaded_from []) 5 ≡ Ok (dated empty 5)
 unfolding load
 empty_load = refl
 
@@ -86,7 +98,7 @@ unfolding load
 absent_file = refl
 
 -- an empty line has one column
-bad_line : load (one (codes "allCountries.txt") (c3 ++ codes "\n\n" ++ a1)) 5 ≡ Err (malformed file.Rows 2 reason.Columns)
+bad_line : load (loaded_from (c3 ++ codes "\n\n" ++ a1)) 5 ≡ Err (malformed file.Rows 2 reason.Columns)
 unfolding load after_line reason_against is_utf8 chars encode
 bad_line = refl
 
@@ -123,16 +135,16 @@ unfolding day digits
 absent_day = refl
 
 -- a changed row, a row taken out, and an unknown id
-day_applied : day (gazetteer 5 (a1 ∷ x2 ∷ c3 ∷ [])) (beside (codes "modifications-0000-01-07.txt") (b2 ++ codes "\n") (one (codes "deletes-0000-01-07.txt") (codes "3\tC\tgone\n77"))) 6 ≡ Ok (gazetteer 6 (a1 ∷ b2 ∷ []))
+day_applied : day (gazetteer 5 (a1 ∷ x2 ∷ c3 ∷ [])) (changed_by (b2 ++ codes "\n") (codes "3\tC\tgone\n77")) 6 ≡ Ok (gazetteer 6 (a1 ∷ b2 ∷ []))
 unfolding day after_line reason_against is_utf8 chars encode digits
 day_applied = refl
 
 -- a row that is changed and taken out on one day is gone
-changed_and_deleted : day (gazetteer 5 (a1 ∷ b2 ∷ c3 ∷ [])) (beside (codes "modifications-0000-01-07.txt") x2 (one (codes "deletes-0000-01-07.txt") (codes "2\tX\tgone"))) 6 ≡ Ok (gazetteer 6 (a1 ∷ c3 ∷ []))
+changed_and_deleted : day (gazetteer 5 (a1 ∷ b2 ∷ c3 ∷ [])) (changed_by x2 (codes "2\tX\tgone")) 6 ≡ Ok (gazetteer 6 (a1 ∷ c3 ∷ []))
 unfolding day after_line reason_against is_utf8 chars encode digits
 changed_and_deleted = refl
 
 -- the line of a delete is counted in its own file
-bad_delete : day (gazetteer 5 (a1 ∷ [])) (beside (codes "modifications-0000-01-07.txt") (b2 ++ codes "\n") (one (codes "deletes-0000-01-07.txt") (codes "1\nx"))) 6 ≡ Err (malformed (file.Deletes 6) 2 reason.Id)
+bad_delete : day (gazetteer 5 (a1 ∷ [])) (changed_by (b2 ++ codes "\n") (codes "1\nx")) 6 ≡ Err (malformed (file.Deletes 6) 2 reason.Id)
 unfolding day after_line reason_against is_utf8 chars encode digits
 bad_delete = refl

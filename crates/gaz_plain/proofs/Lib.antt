@@ -5,10 +5,13 @@ pub mod OneLine
 pub mod Folds
 pub mod Kept
 pub mod Steps
-pub mod Found
-pub mod Edited
 pub mod Taken
 pub mod TextTests
 pub mod Grown
+pub mod EntryLemmas
+pub mod ListLemmas
 pub mod Wanting
+pub mod Offered
 pub mod Selected
+pub mod PlacedLemmas
+pub mod PlacedNames

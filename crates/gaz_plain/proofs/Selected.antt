@@ -5,6 +5,7 @@ use Rattle.std.specs.List.{filter_map}
 use Rattle.std.specs.Ordering.{is_eq}
 use Rattle.std.specs.declared.cmp.Ordering.TheVariants.{Less}
 use Rattle.gaz_num.specs.declared.words.Kind.TheVariants.{Row}
+use Rattle.gaz_num.specs.declared.words.Table.{Table}
 use Rattle.gaz_num.specs.declared.words.Table.TheVariants.{Rows}
 use Rattle.gaz_num.specs.Numbers.{id_in}
 use Rattle.gaz_num.specs.Pieces.{column}
@@ -19,22 +20,23 @@ use Rattle.gaz_plain.proofs.KeyOrder.{key_ties}
 
 -- ---- a row is found by its id
 
-keyed : (id : Option ℕ) → is_some id ≡ true → unwrap_or (option_map (λ id. id ∷ []) id) [] ≡ unwrap_or id 0 ∷ []
+pub keyed : (id : Option ℕ) → is_some id ≡ true → unwrap_or (option_map (λ id. id ∷ []) id) [] ≡ unwrap_or id 0 ∷ []
 keyed None some = absurd (true≢false (sym some))
 keyed (Some id) some = refl
 
 key_is_id : (row : List ℕ) → IsLine Row row → key_of Rows row ≡ id_of row ∷ []
 key_is_id row line = keyed (id_in (column 1 row)) (accepted row line.accepted).id
 
-found_by_key : (rows : List (List ℕ)) (k : ℕ) (d : List ℕ) → AllPairs (KeysRise Rows) rows → k < length rows → line_at Rows (key_of Rows (get_or rows k d)) rows ≡ Some (get_or rows k d)
-found_by_key [] k d rising in_range = absurd (omega arith)
-found_by_key (row ∷ rows) zero d rising in_range =
-    let here : is_eq (key_cmp (key_of Rows row) (key_of Rows row)) ≡ true = ap is_eq (key_ties (key_of Rows row)) in
+-- each line of a table is found by its key
+pub found_by_key : (table : Table) (lines : List (List ℕ)) (k : ℕ) (d : List ℕ) → AllPairs (KeysRise table) lines → k < length lines → line_at table (key_of table (get_or lines k d)) lines ≡ Some (get_or lines k d)
+found_by_key table [] k d rising in_range = absurd (omega arith)
+found_by_key table (line ∷ lines) zero d rising in_range =
+    let here : is_eq (key_cmp (key_of table line) (key_of table line)) ≡ true = ap is_eq (key_ties (key_of table line)) in
     rw here refl
-found_by_key (row ∷ rows) (suc k) d rising in_range =
-    let less : key_cmp (key_of Rows row) (key_of Rows (get_or rows k d)) ≡ Less = rising 0 (suc k) d (omega arith) (omega arith) in
-    let later : is_eq (key_cmp (key_of Rows row) (key_of Rows (get_or rows k d))) ≡ false = ap is_eq less in
-    rw later (found_by_key rows k d (λ i j e lt within. rising (suc i) (suc j) e (omega arith) (omega arith)) (omega arith))
+found_by_key table (line ∷ lines) (suc k) d rising in_range =
+    let less : key_cmp (key_of table line) (key_of table (get_or lines k d)) ≡ Less = rising 0 (suc k) d (omega arith) (omega arith) in
+    let later : is_eq (key_cmp (key_of table line) (key_of table (get_or lines k d))) ≡ false = ap is_eq less in
+    rw later (found_by_key table lines k d (λ i j e lt within. rising (suc i) (suc j) e (omega arith) (omega arith)) (omega arith))
 
 -- ---- a pair of rows that match has its row
 
@@ -96,7 +98,7 @@ pairs_of_rows all (p ∷ ps) have =
 pub answers_have_rows : (gaz : Gazetteer) (asked : Asked) → IsGazetteer gaz → map pair_of (search_of gaz asked) ≡ answer_pairs gaz asked
 answers_have_rows gaz asked is =
     let table = is.tables Rows in
-    let found : AreFound gaz.rows gaz.rows = λ k d below. subst (λ key. line_at Rows key gaz.rows ≡ Some (get_or gaz.rows k d)) (key_is_id (get_or gaz.rows k d) (table.each k d below)) (found_by_key gaz.rows k d table.rising below) in
+    let found : AreFound gaz.rows gaz.rows = λ k d below. subst (λ key. line_at Rows key gaz.rows ≡ Some (get_or gaz.rows k d)) (key_is_id (get_or gaz.rows k d) (table.each k d below)) (found_by_key Rows gaz.rows k d table.rising below) in
     pairs_of_rows gaz.rows (answer_pairs gaz asked)
     (λ p held. has_row gaz.rows (matches gaz asked) p gaz.rows found
     (sym (holds-in_order (matching_pairs gaz asked) p) ∙ holds-drop asked.start (in_order (matching_pairs gaz asked)) p (holds-take asked.max (drop asked.start (in_order (matching_pairs gaz asked))) p held)))

@@ -10,7 +10,7 @@ use Rattle.std.specs.declared.cmp.Ordering.TheVariants.{Less, Equal, Greater}
 use Rattle.std.proofs.lemmas.Bool.Decides.{nat_tests, Decides-and, Decides-by_and, Decides-like}
 use Rattle.gaz_num.specs.declared.words.Kind.{Kind}
 use Rattle.gaz_num.specs.declared.words.Table.{Table}
-use Rattle.gaz_num.specs.declared.words.Table.TheVariants.{Rows}
+use Rattle.gaz_num.specs.declared.words.Table.TheVariants.{Rows, Alternates}
 use Rattle.gaz_num.specs.declared.words.Reason.{Reason}
 use Rattle.gaz_num.specs.Check.{reason_against}
 use Rattle.gaz_plain.specs.Gazetteer.{Gazetteer, IsLine, IsTable, IsGazetteer, KeysRise, in_tables, kind_in, key_of, key_cmp, limit_of, lines_in, is_one_line}
@@ -79,16 +79,14 @@ nil_told (line ∷ lines) = (λ e. absurd (true≢false (sym e)), λ e. ap has_n
 more_told : (gaz : Gazetteer) → Decides (has_no_more gaz) (gaz ≡ in_tables gaz)
 more_told gaz =
     Decides-like (has_no_more gaz)
-    (λ all. λ i. record { date = gaz.date; rows = gaz.rows; alternates = all.0.0.0 i; links = all.0.0.1 i; countries = all.0.1 i; codes = all.1 i })
-    (λ is. (((ap (λ (g : Gazetteer). g.alternates) is, ap (λ (g : Gazetteer). g.links) is), ap (λ (g : Gazetteer). g.countries) is), ap (λ (g : Gazetteer). g.codes) is))
-    (Decides-and ((has_no_line gaz.alternates) && (has_no_line gaz.links) && (has_no_line gaz.countries)) (has_no_line gaz.codes)
-    (Decides-and ((has_no_line gaz.alternates) && (has_no_line gaz.links)) (has_no_line gaz.countries)
-    (Decides-and (has_no_line gaz.alternates) (has_no_line gaz.links) (nil_told gaz.alternates) (nil_told gaz.links))
-    (nil_told gaz.countries))
+    (λ all. λ i. record { date = gaz.date; rows = gaz.rows; alternates = gaz.alternates; links = all.0.0 i; countries = all.0.1 i; codes = all.1 i })
+    (λ is. ((ap (λ (g : Gazetteer). g.links) is, ap (λ (g : Gazetteer). g.countries) is), ap (λ (g : Gazetteer). g.codes) is))
+    (Decides-and ((has_no_line gaz.links) && (has_no_line gaz.countries)) (has_no_line gaz.codes)
+    (Decides-and (has_no_line gaz.links) (has_no_line gaz.countries) (nil_told gaz.links) (nil_told gaz.countries))
     (nil_told gaz.codes))
 
-dated_gazetteer : (gaz : Gazetteer) → IsSome gaz.date → IsTable Rows gaz.rows → gaz ≡ in_tables gaz → IsGazetteer gaz
-dated_gazetteer gaz some rows more = record {
+dated_gazetteer : (gaz : Gazetteer) → IsSome gaz.date → IsTable Rows gaz.rows → IsTable Alternates gaz.alternates → gaz ≡ in_tables gaz → IsGazetteer gaz
+dated_gazetteer gaz some rows alternates more = record {
   tables = λ t. by t;
   no_more = more;
   undated = λ none. absurd (true≢false (sym some ∙ ap is_some none));
@@ -96,12 +94,15 @@ dated_gazetteer gaz some rows more = record {
   where
     by : (t : Table) → IsTable t (lines_in gaz t)
     by Rows = rows
+    by Alternates = alternates
 
 pub gazetteer_told : (gaz : Gazetteer) → Decides (is_dated_gazetteer gaz) (IsSome gaz.date × IsGazetteer gaz)
 gazetteer_told gaz =
     Decides-like (is_dated_gazetteer gaz)
-    (λ all. (all.0.0, dated_gazetteer gaz all.0.0 all.0.1 all.1))
-    (λ is. ((is.0, is.1.tables Rows), is.1.no_more))
-    (Decides-and (is_some gaz.date && is_table Rows gaz.rows) (has_no_more gaz)
+    (λ all. (all.0.0.0, dated_gazetteer gaz all.0.0.0 all.0.0.1 all.0.1 all.1))
+    (λ is. (((is.0, is.1.tables Rows), is.1.tables Alternates), is.1.no_more))
+    (Decides-and (is_some gaz.date && is_table Rows gaz.rows && is_table Alternates gaz.alternates) (has_no_more gaz)
+    (Decides-and (is_some gaz.date && is_table Rows gaz.rows) (is_table Alternates gaz.alternates)
     (Decides-and (is_some gaz.date) (is_table Rows gaz.rows) (λ e. e, λ e. e) (table_told Rows gaz.rows))
+    (table_told Alternates gaz.alternates))
     (more_told gaz))

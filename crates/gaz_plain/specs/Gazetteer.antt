@@ -6,9 +6,9 @@ use Rattle.std.specs.Ordering.{nat_cmp, is_lt, is_gt, is_eq}
 use Rattle.std.specs.declared.cmp.Ordering.{Ordering}
 use Rattle.std.specs.declared.cmp.Ordering.TheVariants.{Less}
 use Rattle.gaz_num.specs.declared.words.Kind.{Kind}
-use Rattle.gaz_num.specs.declared.words.Kind.TheVariants.{Row, RowDelete}
+use Rattle.gaz_num.specs.declared.words.Kind.TheVariants.{Row, RowDelete, Alt, AltDelete}
 use Rattle.gaz_num.specs.declared.words.Table.{Table}
-use Rattle.gaz_num.specs.declared.words.Table.TheVariants.{Rows}
+use Rattle.gaz_num.specs.declared.words.Table.TheVariants.{Rows, Alternates}
 use Rattle.gaz_num.specs.declared.words.Reason.{Reason}
 use Rattle.gaz_num.specs.Check.{reason_against, key_in}
 
@@ -32,32 +32,40 @@ dated gaz date = record gaz { date = Some date }
 -- the lines of a table
 abbrev pub lines_in : Gazetteer → Table → List (List ℕ)
 lines_in gaz Rows = gaz.rows
+lines_in gaz Alternates = gaz.alternates
 
 -- the gazetteer with these as the lines of a table
 abbrev pub with_lines : Gazetteer → Table → List (List ℕ) → Gazetteer
 with_lines gaz Rows lines = record gaz { rows = lines }
+with_lines gaz Alternates lines = record gaz { alternates = lines }
 
 -- the gazetteer without the lists for which there is no table yet: each new table adds its list here
 abbrev pub in_tables : Gazetteer → Gazetteer
-in_tables gaz = record empty { date = gaz.date; rows = gaz.rows }
+in_tables gaz = record empty { date = gaz.date; rows = gaz.rows; alternates = gaz.alternates }
 
 -- how many lines a table may hold
 abbrev pub limit_of : Table → ℕ
 limit_of Rows = 2 ^ 25
+limit_of Alternates = 2 ^ 25
 
 -- the kind of the lines that a table holds
 abbrev pub kind_in : Table → Kind
 kind_in Rows = Row
+kind_in Alternates = Alt
 
 -- the table that a line of a kind changes
 abbrev pub table_of : Kind → Table
 table_of Row = Rows
 table_of RowDelete = Rows
+table_of Alt = Alternates
+table_of AltDelete = Alternates
 
 -- whether a line of a kind only takes out
 abbrev pub is_delete : Kind → Bool
 is_delete Row = false
 is_delete RowDelete = true
+is_delete Alt = false
+is_delete AltDelete = true
 
 -- the key of a line of a table, and no number where it has none
 abbrev pub key_of : Table → List ℕ → List ℕ

@@ -4,8 +4,10 @@ pub mod Fold
 pub mod Load
 pub mod Laws
 pub mod Places
+pub mod Keys
 pub mod Entries
 pub mod Faults
 pub mod Names
+pub mod Placed
 pub mod Search
 pub mod Wanted

@@ -1,7 +1,7 @@
 -- A load and a day: which files they read, and what they make of a gazetteer.
 use Rattle.std.specs.Prelude.{ℕ, suc, List, [], ◌∷◌, Option, Some, None, Result, Ok, Err, ok_or, if◌then◌else◌, ◌==◌}
 use Rattle.gaz_num.specs.declared.words.FileName.{FileName}
-use Rattle.gaz_num.specs.declared.words.FileName.TheVariants.{Rows, Modifications, Deletes}
+use Rattle.gaz_num.specs.declared.words.FileName.TheVariants.{Rows, Alternates, Modifications, Deletes, AltModifications, AltDeletes}
 use Rattle.gaz_num.specs.Refusal.{Refusal, not_loaded, sequence, absent, ◌>>=◌}
 use Rattle.gaz_num.specs.Words.{file_text}
 use Rattle.gaz_plain.specs.Gazetteer.{Gazetteer, empty, dated}
@@ -21,11 +21,11 @@ files_of shelf (name ∷ names) =
 
 -- the files of a load, in the order in which they are read
 abbrev pub load_files : List FileName
-load_files = Rows ∷ []
+load_files = Rows ∷ Alternates ∷ []
 
 -- the files of a day, in the order in which they are read
 abbrev pub day_files : ℕ → List FileName
-day_files date = Modifications date ∷ Deletes date ∷ []
+day_files date = Modifications date ∷ Deletes date ∷ AltModifications date ∷ AltDeletes date ∷ []
 
 -- the gazetteer that a load makes, or why it is refused
 unfoldable pub load : Files → ℕ → Result Gazetteer Refusal

@@ -1,35 +1,30 @@
--- Where a key stands, or would stand, in a list of rows.
-use Rattle.std.specs.Prelude.{◌≡◌, ℕ, suc, ◌<◌, ◌≤◌, List, [], ◌∷◌, ◌++◌, length, take, drop, slice_get, Some, None, All}
+-- A line that is put at its key, and one that is taken out.
+use Rattle.std.specs.Prelude.{◌≡◌, ℕ, ◌<◌, Bool, nat_le, List, [], ◌∷◌, length, Some, All}
 use Rattle.std.specs.declared.cmp.Ordering.TheVariants.{Less}
-use Rattle.gaz_num.specs.declared.words.Kind.TheVariants.{Row}
-use Rattle.gaz_num.specs.declared.words.Table.TheVariants.{Rows}
+use Rattle.gaz_num.specs.declared.words.Table.{Table}
 use Rattle.gaz_num.specs.Check.{key_in}
-use Rattle.gaz_plain.specs.Gazetteer.{key_of, key_cmp, line_at, replaced}
+use Rattle.gaz_plain.specs.Gazetteer.{kind_in, key_of, key_cmp, limit_of, replaced}
 
--- The id is the key of the row.
-abbrev pub IsIdOf : ℕ → List ℕ → Type 0
-IsIdOf id line = key_in Row line ≡ Some (id ∷ [])
+-- It is the key of the line.
+abbrev pub IsKeyOf : Table → List ℕ → List ℕ → Type 0
+IsKeyOf table key line = key_in (kind_in table) line ≡ Some key
 
--- the rows with this one at its id
-abbrev pub with_row : ℕ → List ℕ → List (List ℕ) → List (List ℕ)
-with_row id row rows = replaced Rows (id ∷ []) (row ∷ []) rows
+-- the lines with this one at its key
+abbrev pub with_line : Table → List ℕ → List ℕ → List (List ℕ) → List (List ℕ)
+with_line table key line lines = replaced table key (line ∷ []) lines
 
--- the rows without the one that has the id
-abbrev pub without_row : ℕ → List (List ℕ) → List (List ℕ)
-without_row id rows = replaced Rows (id ∷ []) [] rows
+-- whether there is room for a line with the key, whichever it is
+abbrev pub has_room : Table → List ℕ → List (List ℕ) → Bool
+has_room table key lines = nat_le (length (with_line table key [] lines)) (limit_of table)
 
--- All rows have lesser ids.
-abbrev pub EndsBefore : ℕ → List (List ℕ) → Type 0
-EndsBefore id rows = All (λ row. key_cmp (key_of Rows row) (id ∷ []) ≡ Less) rows
+-- the lines without the one that has the key
+abbrev pub without_line : Table → List ℕ → List (List ℕ) → List (List ℕ)
+without_line table key lines = replaced table key [] lines
 
--- The row with this id stands at the place: to replace it is to replace what stands there.
-pub record IsPlaceOf (id : ℕ) (rows : List (List ℕ)) (place : ℕ) : Type 0 where
-  pub in_range : place < length rows
-  pub found : line_at Rows (id ∷ []) rows ≡ slice_get rows place
-  pub around : (put : List (List ℕ)) → replaced Rows (id ∷ []) put rows ≡ take place rows ++ put ++ drop (suc place) rows
+-- All lines have lesser keys.
+abbrev pub EndsBefore : Table → List ℕ → List (List ℕ) → Type 0
+EndsBefore table key lines = All (λ line. key_cmp (key_of table line) key ≡ Less) lines
 
--- No row has this id, and one that has would stand between those before the place and the others.
-pub record IsGapFor (id : ℕ) (rows : List (List ℕ)) (place : ℕ) : Type 0 where
-  pub in_range : place ≤ length rows
-  pub absent : line_at Rows (id ∷ []) rows ≡ None
-  pub around : (put : List (List ℕ)) → replaced Rows (id ∷ []) put rows ≡ take place rows ++ put ++ drop place rows
+-- There is room for a line with the key behind all others.
+abbrev pub TakesBehind : Table → List ℕ → List (List ℕ) → Type 0
+TakesBehind table key lines = (length lines < limit_of table) × EndsBefore table key lines

@@ -4,7 +4,7 @@ use Rattle.std.specs.List.{flat_map, list_all}
 use Rattle.std.specs.Ordering.{is_lt}
 use Rattle.gaz_num.specs.declared.words.Kind.{Kind}
 use Rattle.gaz_num.specs.declared.words.Table.{Table}
-use Rattle.gaz_num.specs.declared.words.Table.TheVariants.{Rows}
+use Rattle.gaz_num.specs.declared.words.Table.TheVariants.{Rows, Alternates}
 use Rattle.gaz_num.specs.Check.{reason_against}
 use Rattle.gaz_plain.specs.Gazetteer.{Gazetteer, limit_of, kind_in, key_of, key_cmp, is_one_line}
 
@@ -44,8 +44,8 @@ has_no_line (line ∷ lines) = false
 
 -- whether the lists for which there is no table yet are empty
 abbrev pub has_no_more : Gazetteer → Bool
-has_no_more gaz = has_no_line gaz.alternates && has_no_line gaz.links && has_no_line gaz.countries && has_no_line gaz.codes
+has_no_more gaz = has_no_line gaz.links && has_no_line gaz.countries && has_no_line gaz.codes
 
 -- whether a date and five lists of lines are a gazetteer with that date
 abbrev pub is_dated_gazetteer : Gazetteer → Bool
-is_dated_gazetteer gaz = is_some gaz.date && is_table Rows gaz.rows && has_no_more gaz
+is_dated_gazetteer gaz = is_some gaz.date && is_table Rows gaz.rows && is_table Alternates gaz.alternates && has_no_more gaz

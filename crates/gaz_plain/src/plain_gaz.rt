@@ -1,54 +1,34 @@
 //! The gazetteer that is stepped on plain lists.
-ghost use Rattle.std.specs.Prelude.{◌≡◌, ◌≤◌, ◌+◌, ◌∷◌, ◌++◌, [], true, false, length, take, drop, slice_get, IsSome, IsTrue, IsOk, IfOk, IfErr, OnOk, OnErr, Ok};
+ghost use Rattle.std.specs.Prelude.{◌≡◌, ◌≤◌, ◌+◌, ◌∷◌, ◌++◌, [], true, false, length, take, drop, IsSome, IsTrue, IsOk, IfOk, IfErr, OnOk, OnErr, Ok};
 ghost use Rattle.std.specs.Option.{option_copied};
 ghost use Rattle.gaz_num.specs.declared.words.Table.TheVariants.{Rows};
 ghost use Rattle.gaz_pick.specs.Order.{in_order};
 ghost use Rattle.gaz_pick.specs.Asked.{absent, asked};
-ghost use Rattle.gaz_plain.specs.Search.{matching_pairs, answer_pairs};
-ghost use Rattle.gaz_plain.specs.Gazetteer.{empty, dated, is_one_line, lines_in, with_lines, line_with, after_line, IsLine, IsGazetteer};
+ghost use Rattle.gaz_plain.specs.Search.{matches, matching_pairs, answer_pairs};
+ghost use Rattle.gaz_plain.specs.Gazetteer.{empty, dated, is_one_line, lines_in, with_lines, line_with, after_line, IsGazetteer};
 ghost use Rattle.gaz_plain.specs.Text.{is_table};
-ghost use Rattle.gaz_plain.specs.Places.{IsIdOf};
 ghost use Rattle.gaz_plain.specs.Faults.{IsFaultOf};
+ghost use Rattle.gaz_plain.specs.Wanted.{wanted_of};
 
-use crate::check_delete;
-use crate::row_list::{PutFault, RowList};
+use crate::PlainFault;
+use crate::alternates::Alternates;
+use crate::key::OfRows;
+use crate::line_list::LineList;
+use crate::lines::Lines;
 use crate::wanted::Wanted;
-use gaz_num::{Day, Kind, Reason, Table};
-use gaz_pick::{Best, Query, first_of_more};
-use gaz_row::check_row;
+use gaz_alt::{check_alt, check_delete};
+use gaz_num::{Day, Kind, Table};
+use gaz_pick::{Best, Query, first_of_more, passes};
+use gaz_row::{Row, check_row};
 use std::alloc::{AllocError, Global};
 use std::marker::Model;
-
-/// Why a line isn't stepped in.
-#[derive(Clone, Copy, Debug, PartialEq, Eq)]
-pub enum PlainFault {
-    /// The check of its kind has this reason against it.
-    Malformed(Reason),
-    /// After it the table would have more lines than it may.
-    Full(Table),
-    /// Memory was wanting.
-    Memory,
-}
-
-impl From<PutFault> for PlainFault {
-    ghost use Rattle.std.specs.Prelude.{◌≡◌};
-    ghost use Rattle.gaz_plain.specs.Faults.{fault_of};
-
-    ghost from_gives = { λ cause fault. fault ≡ fault_of cause };
-
-    fn from(cause: PutFault) -> PlainFault {
-        match cause {
-            PutFault::Full => PlainFault::Full(Table::Rows),
-            PutFault::Memory => PlainFault::Memory,
-        }
-    }
-}
 
 /// A gazetteer as plain lists of lines, seen as the `Gazetteer` of the definitions.
 #[derive(Drop)]
 pub struct PlainGaz {
     date: Option<Day>,
-    rows: RowList,
+    rows: LineList<u32, OfRows>,
+    alternates: Alternates,
 }
 
 impl Model for PlainGaz {
@@ -56,9 +36,9 @@ impl Model for PlainGaz {
 
     ghost Value = { Gazetteer };
 
-    ghost view = { λ gaz. record empty { date = gaz.date; rows = gaz.rows } };
+    ghost view = { λ gaz. record empty { date = gaz.date; rows = gaz.rows; alternates = gaz.alternates } };
 
-    ghost invariant = { λ gaz. IsGazetteer (record empty { date = gaz.date; rows = gaz.rows }) };
+    ghost invariant = { λ gaz. IsGazetteer (record empty { date = gaz.date; rows = gaz.rows; alternates = gaz.alternates }) };
 }
 
 impl PlainGaz {
@@ -68,7 +48,8 @@ impl PlainGaz {
     {
         PlainGaz {
             date: None,
-            rows: RowList::new(alloc),
+            rows: LineList::new(alloc),
+            alternates: Alternates::new(alloc),
         }
     }
 
@@ -84,7 +65,9 @@ impl PlainGaz {
     {
         match kind {
             Kind::Row => self.step_row(line),
-            Kind::RowDelete => self.step_delete(line),
+            Kind::RowDelete => self.step_row_delete(line),
+            Kind::Alt => self.step_alternate(line),
+            Kind::AltDelete => self.step_alternate_delete(line),
         }
     }
 
@@ -98,27 +81,13 @@ impl PlainGaz {
         ensures date { self.new.date ≡ self.old.date }
     {
         match check_row(line) {
-            Ok(id) => self.put_row(id, line),
+            Ok(id) => self.rows.put(id, line),
             Err(reason) => Err(PlainFault::Malformed(reason)),
         }
     }
 
-    /// Puts an accepted row at its id.
-    fn put_row(&mut self, id: u32, row: &[u8]) -> Result<(), PlainFault>
-        requires dated { IsSome self.old.date }
-        requires line { IsLine Kind.Row row.now }
-        requires keyed { IsIdOf id row.now }
-        ensures ok { OnOk result (after_line self.old Kind.Row row.now ≡ Ok self.new) }
-        ensures fault { IfErr result (IsFaultOf (after_line self.old Kind.Row row.now)) }
-        ensures refused { OnErr result (self.new ≡ self.old) }
-        ensures date { self.new.date ≡ self.old.date }
-    {
-        self.rows.put(id, row)?;
-        Ok(())
-    }
-
     /// Checks a delete and takes out the row with its id.
-    fn step_delete(&mut self, line: &[u8]) -> Result<(), PlainFault>
+    fn step_row_delete(&mut self, line: &[u8]) -> Result<(), PlainFault>
         requires dated { IsSome self.old.date }
         ensures ok { OnOk result (after_line self.old Kind.RowDelete line.now ≡ Ok self.new) }
         ensures fault { IfErr result (IsFaultOf (after_line self.old Kind.RowDelete line.now)) }
@@ -127,7 +96,39 @@ impl PlainGaz {
     {
         match check_delete(line) {
             Ok(id) => {
-                self.rows.take_out(id);
+                self.rows.take_out(&id);
+                Ok(())
+            }
+            Err(reason) => Err(PlainFault::Malformed(reason)),
+        }
+    }
+
+    /// Checks an alternate name and puts it at its id.
+    fn step_alternate(&mut self, line: &[u8]) -> Result<(), PlainFault>
+        requires dated { IsSome self.old.date }
+        requires one_line { IsTrue (is_one_line line.now) }
+        ensures ok { OnOk result (after_line self.old Kind.Alt line.now ≡ Ok self.new) }
+        ensures fault { IfErr result (IsFaultOf (after_line self.old Kind.Alt line.now)) }
+        ensures refused { OnErr result (self.new ≡ self.old) }
+        ensures date { self.new.date ≡ self.old.date }
+    {
+        match check_alt(line) {
+            Ok(id) => self.alternates.put(id, line),
+            Err(reason) => Err(PlainFault::Malformed(reason)),
+        }
+    }
+
+    /// Checks a delete and takes out the alternate name with its id.
+    fn step_alternate_delete(&mut self, line: &[u8]) -> Result<(), PlainFault>
+        requires dated { IsSome self.old.date }
+        ensures ok { OnOk result (after_line self.old Kind.AltDelete line.now ≡ Ok self.new) }
+        ensures fault { IfErr result (IsFaultOf (after_line self.old Kind.AltDelete line.now)) }
+        ensures refused { OnErr result (self.new ≡ self.old) }
+        ensures date { self.new.date ≡ self.old.date }
+    {
+        match check_delete(line) {
+            Ok(id) => {
+                self.alternates.take_out(id);
                 Ok(())
             }
             Err(reason) => Err(PlainFault::Malformed(reason)),
@@ -152,7 +153,7 @@ impl PlainGaz {
     pub fn get(&self, id: u32) -> Option<&[u8]>
         ensures { option_copied result ≡ line_with Rows (id ∷ []) self.now }
     {
-        self.rows.get(id)
+        self.rows.get(&id)
     }
 
     /// How many lines the table has.
@@ -161,15 +162,17 @@ impl PlainGaz {
     {
         match table {
             Table::Rows => self.rows.len() as u32,
+            Table::Alternates => self.alternates.len() as u32,
         }
     }
 
-    /// The n-th line of the table in the order of keys, from 0.
-    pub fn line(&self, table: Table, n: u32) -> Option<&[u8]>
-        ensures { option_copied result ≡ slice_get (lines_in self.now table) n }
+    /// The lines of the table in the order of keys.
+    pub fn lines(&self, table: Table) -> Lines<'_>
+        ensures { result ≡ lines_in self.now table }
     {
         match table {
-            Table::Rows => self.rows.at(n as usize),
+            Table::Rows => Lines::of(self.rows.lines()),
+            Table::Alternates => Lines::of(self.alternates.lines()),
         }
     }
 
@@ -185,6 +188,7 @@ impl PlainGaz {
     {
         match table {
             Table::Rows => self.append_row(line),
+            Table::Alternates => self.append_alternate(line),
         }
     }
 
@@ -192,8 +196,8 @@ impl PlainGaz {
     fn append_row(&mut self, line: &[u8]) -> Result<bool, AllocError>
         requires dated { IsSome self.old.date }
         requires one_line { IsTrue (is_one_line line.now) }
-        ensures fits { IfOk result (λ fits. fits ≡ is_table Rows (self.old.rows ++ line.now ∷ [])) }
-        ensures put { IfOk result (λ fits. fits ≡ true → self.new ≡ with_lines self.old Rows (self.old.rows ++ line.now ∷ [])) }
+        ensures fits { IfOk result (λ fits. fits ≡ is_table Table.Rows (self.old.rows ++ line.now ∷ [])) }
+        ensures put { IfOk result (λ fits. fits ≡ true → self.new ≡ with_lines self.old Table.Rows (self.old.rows ++ line.now ∷ [])) }
         ensures left { IfOk result (λ fits. fits ≡ false → self.new ≡ self.old) }
         ensures err { OnErr result (self.new ≡ self.old) }
     {
@@ -203,9 +207,23 @@ impl PlainGaz {
         self.rows.append(id, line)
     }
 
+    /// Puts an alternate name behind all others.
+    fn append_alternate(&mut self, line: &[u8]) -> Result<bool, AllocError>
+        requires dated { IsSome self.old.date }
+        requires one_line { IsTrue (is_one_line line.now) }
+        ensures fits { IfOk result (λ fits. fits ≡ is_table Table.Alternates (self.old.alternates ++ line.now ∷ [])) }
+        ensures put { IfOk result (λ fits. fits ≡ true → self.new ≡ with_lines self.old Table.Alternates (self.old.alternates ++ line.now ∷ [])) }
+        ensures left { IfOk result (λ fits. fits ≡ false → self.new ≡ self.old) }
+        ensures err { OnErr result (self.new ≡ self.old) }
+    {
+        let Ok(id) = check_alt(line) else {
+            return Ok(false);
+        };
+        self.alternates.append(id, line)
+    }
+
     /// Puts the first of the rows that match into `best`, which then has those that the answer is cut from. Memory may be
     /// wanting only where a name is asked for, and `best` then has any pairs.
-    #[tactic(auto, using(crate::proofs::Wanting::pairs_own))]
     pub fn select(&self, query: &Query<'_>, best: &mut Best) -> Result<(), AllocError>
         requires start { query.now.start ≤ 5000 }
         requires max { query.now.max ≤ 1000 }
@@ -217,7 +235,49 @@ impl PlainGaz {
         first_of_more();
         best.clear(query.start + query.max);
         let wanted = Wanted::of(self.rows.allocator(), &query.name)?;
-        self.rows.offer_matching(query, &wanted, best)
+        self.offer_matching(query, &wanted, best)
+    }
+
+    /// Offers the population and the id of each row that has all that is asked.
+    fn offer_matching(
+        &self,
+        query: &Query<'_>,
+        wanted: &Wanted,
+        best: &mut Best,
+    ) -> Result<(), AllocError>
+        requires wanted { wanted.now ≡ wanted_of (asked query.now).name }
+        requires none { best.old.pairs ≡ [] }
+        ensures keep { best.new.keep ≡ best.old.keep }
+        ensures pairs { OnOk result (best.new.pairs ≡ take best.old.keep (in_order (matching_pairs self.now (asked query.now)))) }
+        ensures absent { (asked query.now).name ≡ absent → IsOk result }
+    {
+        first_of_more();
+        for line in self.rows.lines() {
+            let row = Row::of(line);
+            if self.takes(query, wanted, &row)? {
+                best.offer(row.population(), row.id());
+            }
+        }
+        Ok(())
+    }
+
+    /// Whether a row has all that is asked: the columns, the box, and then a name, which costs more.
+    fn takes(&self, query: &Query<'_>, wanted: &Wanted, row: &Row<'_>) -> Result<bool, AllocError>
+        requires wanted { wanted.now ≡ wanted_of (asked query.now).name }
+        ensures matches { IfOk result (λ is. is ≡ matches self.now (asked query.now) row.now) }
+        ensures absent { (asked query.now).name ≡ absent → IsOk result }
+    {
+        if !passes(query, row) {
+            return Ok(false);
+        }
+        if wanted.is_nothing() {
+            return Ok(true);
+        }
+        if wanted.fits_own(self.rows.allocator(), query.lang, row)? {
+            return Ok(true);
+        }
+        self.alternates
+            .has_name(self.rows.allocator(), wanted, query.lang, row.id())
     }
 
     /// An equal one, whose steps leave this one. A day is folded on a copy.
@@ -225,9 +285,11 @@ impl PlainGaz {
         ensures { IfOk result (λ copied. copied ≡ self.now) }
     {
         let rows = self.rows.copy()?;
+        let alternates = self.alternates.copy()?;
         Ok(PlainGaz {
             date: self.date,
             rows,
+            alternates,
         })
     }
 

@@ -1,11 +1,13 @@
 //! What a search asks of the names of a row.
 ghost use Rattle.std.specs.Prelude.{◌≡◌, IsOk, IfOk};
 ghost use Rattle.std.specs.Option.{option_copied};
-ghost use Rattle.gaz_pick.specs.Asked.{absent, name_asked, asked};
-ghost use Rattle.gaz_plain.specs.Wanted.{wanted_of, fits, fits_own, matches_alone};
+ghost use Rattle.gaz_pick.specs.Asked.{absent, name_asked};
+ghost use Rattle.gaz_plain.specs.Names.{counts_in};
+ghost use Rattle.gaz_plain.specs.Wanted.{wanted_of, is_nothing, fits, fits_own, fits_as};
 
+use gaz_alt::Alt;
 use gaz_name::{NameKey, name_key};
-use gaz_pick::{NameTest, Query, passes};
+use gaz_pick::NameTest;
 use gaz_row::Row;
 use std::alloc::{AllocError, Global};
 
@@ -17,6 +19,26 @@ pub(crate) enum Wanted {
     Starts(NameKey),
 }
 
+/// Whether the text of an alternate counts as a name. Where no language is asked for, those don't whose language is a
+/// code for links, Wikidata ids or postal codes.
+fn counts(lang: Option<&str>, alternate: &Alt<'_>) -> bool
+    ensures { result ≡ counts_in (option_copied lang.entry) alternate.now }
+{
+    match lang {
+        Some(lang) => alternate.language() == lang,
+        None => !is_no_language(alternate.language()),
+    }
+}
+
+/// Whether texts of the language are no names.
+fn is_no_language(language: &str) -> bool
+    ensures { result ≡ is_no_language language.now }
+{
+    language == "link" || language == "wkdt" || language == "post"
+}
+
+ghost use Rattle.gaz_plain.specs.Names.{is_no_language};
+
 impl Wanted {
     /// Makes the key of the value. Where nothing is asked it takes no memory.
     pub fn of(alloc: Global, name: &NameTest<'_>) -> Result<Wanted, AllocError>
@@ -27,6 +49,16 @@ impl Wanted {
             NameTest::Absent => Ok(Wanted::Nothing),
             NameTest::Equals(value) => Ok(Wanted::Equals(name_key(alloc, value)?)),
             NameTest::Starts(value) => Ok(Wanted::Starts(name_key(alloc, value)?)),
+        }
+    }
+
+    /// Whether nothing is asked of names.
+    pub fn is_nothing(&self) -> bool
+        ensures { result ≡ is_nothing self.now }
+    {
+        match self {
+            Wanted::Nothing => true,
+            Wanted::Equals(_) | Wanted::Starts(_) => false,
         }
     }
 
@@ -48,12 +80,8 @@ impl Wanted {
         lang: Option<&str>,
         row: &Row<'_>,
     ) -> Result<bool, AllocError>
-        ensures has { IfOk result (λ is. is ≡ fits_own self.now (option_copied lang.entry) row.now) }
-        ensures absent { self.now ≡ Wanted.Nothing → IsOk result }
+        ensures { IfOk result (λ is. is ≡ fits_own self.now (option_copied lang.entry) row.now) }
     {
-        if let Wanted::Nothing = self {
-            return Ok(true);
-        }
         if lang.is_some() {
             return Ok(false);
         }
@@ -63,16 +91,19 @@ impl Wanted {
         self.fits(alloc, row.ascii())
     }
 
-    /// Whether a row has all that is asked: the columns, the box, and then a name, which costs more.
-    #[tactic(auto, using(crate::proofs::Wanting::own_wanted))]
-    pub fn takes(&self, alloc: Global, query: &Query<'_>, row: &Row<'_>) -> Result<bool, AllocError>
-        requires wanted { self.now ≡ wanted_of (asked query.now).name }
-        ensures matches { IfOk result (λ is. is ≡ matches_alone (asked query.now) row.now) }
-        ensures absent { (asked query.now).name ≡ absent → IsOk result }
+    /// Whether an alternate fits as a name of the place with this id.
+    pub fn fits_as(
+        &self,
+        alloc: Global,
+        lang: Option<&str>,
+        id: u32,
+        alternate: &Alt<'_>,
+    ) -> Result<bool, AllocError>
+        ensures { IfOk result (λ is. is ≡ fits_as self.now (option_copied lang.entry) id alternate.now) }
     {
-        if !passes(query, row) {
+        if alternate.place() != id || !counts(lang, alternate) {
             return Ok(false);
         }
-        self.fits_own(alloc, query.lang, row)
+        self.fits(alloc, alternate.text())
     }
 }

@@ -1,21 +1,19 @@
 -- What a load and a day come to, from what their files come to.
-use Rattle.std.proofs.Common.{◌≡◌, ◌≢◌, ℕ, Bool, true, false, IsTrue, List, [], ◌∷◌, refl, ap, arith, Option, Some, None, ◌∙◌, sym, subst, ◌⊎◌, ⊎_elim, inl, inr}
-use Rattle.std.specs.Prelude.{IfSome, IsSome, Result, Ok, Err, option_and_then, ok_or, if◌then◌else◌}
-use Rattle.gaz_outside.specs.Outside.{ShelfView, FindsFiles, SameFiles, OpensNumber, SameNumbers, NoneOpen, files_of, bytes_of}
+use Rattle.std.proofs.Common.{◌≡◌, ℕ, Bool, true, false, IsTrue, List, [], ◌∷◌, refl, ap, Option, Some, None, ◌∙◌, sym, subst, ◌⊎◌, ⊎_elim, inl, inr}
+use Rattle.std.specs.Prelude.{IfSome, IsSome, Result, Ok, Err, option_and_then, if◌then◌else◌}
+use Rattle.gaz_outside.specs.Outside.{ShelfView, FindsFiles, SameFiles, SameNumbers, NoneOpen, files_of, bytes_of}
 use Rattle.gaz_num.specs.declared.words.FileName.{FileName}
-use Rattle.gaz_num.specs.declared.words.FileName.TheVariants.{Rows, Modifications, Deletes}
-use Rattle.gaz_num.specs.Refusal.{Refusal, absent, ◌>>=◌}
+use Rattle.gaz_num.specs.Refusal.{Refusal, ◌>>=◌}
 use Rattle.gaz_num.specs.Words.{file_text}
-use Rattle.gaz_plain.specs.Gazetteer.{Gazetteer, empty, dated}
-use Rattle.gaz_plain.specs.Fold.{File, fold}
-use Rattle.gaz_plain.specs.Load.{Files, load, day, files_of as files_named, load_files, day_files, in_sequence}
+use Rattle.gaz_plain.specs.Gazetteer.{Gazetteer}
+use Rattle.gaz_plain.specs.Fold.{fold}
+use Rattle.gaz_plain.specs.Load.{Files, load_files}
 use Rattle.gaz_words.specs.Grammar.{RequestAsked, asks_load, asks_day, asks_get, asks_search}
 use Rattle.gaz_words.specs.declared.request.BadRequest.{BadRequest}
 use Rattle.gaz_turns.specs.Turns.{State, ReadsFiles, opens}
 use Rattle.gaz_serve.specs.declared.change.ChangeFault.{ChangeFault}
 use Rattle.gaz_serve.specs.declared.change.ChangeFault.TheVariants.{NotLoaded, Sequence, Absent, Shelf, TooLong, Malformed, Full, Memory}
-use Rattle.gaz_serve.specs.Change.{Gives, Opened, Closes}
-use Rattle.gaz_plain.proofs.Folds.{fold-append}
+use Rattle.gaz_serve.specs.Change.{Gives, Closes}
 use Rattle.gaz_serve.proofs.Folding.{file_of}
 
 pub always : {A : Type 0} {P : A → Type 0} (o : Option A) → ((x : A) → P x) → IfSome o P
@@ -25,18 +23,6 @@ always (Some x) f = f x
 pub weaker : {X : Type 0} {A B : X → Type 0} (o : Option X) → ((x : X) → A x → B x) → IfSome o A → IfSome o B
 weaker None f h = tt
 weaker (Some x) f h = f x h
-
--- a file that couldn't be opened
-pub open_fault : (name : FileName) (old new : ShelfView) (fault : ChangeFault) (f : Files → Result Gazetteer Refusal) → Opened name old new (Err fault) → ((files : Files) → files (file_text name) ≡ None → f files ≡ Err (absent name)) → IfSome (files_of new) (λ files. Gives (f files) (Err fault))
-open_fault name old new NotLoaded f h none = absurd h
-open_fault name old new (Sequence have) f h none = absurd h
-open_fault name old new (Absent file) f h none =
-    weaker (files_of new) (λ files is. none files is ∙ ap (λ n. Err (absent n)) (sym h.0)) h.2
-open_fault name old new (Shelf file) f h none = always (files_of new) (λ files. tt)
-open_fault name old new (TooLong file) f h none = absurd h
-open_fault name old new (Malformed file line reason) f h none = absurd h
-open_fault name old new (Full file line table) f h none = absurd h
-open_fault name old new Memory f h none = absurd h
 
 told_bytes : (told : Bool) (files : Files) (opened : Option (List ℕ)) (name : List ℕ) → opened ≡ Some name → (if told then option_and_then files opened else None) ≡ option_and_then (λ files. files name) (if told then Some files else None)
 told_bytes true files opened name is = ap (option_and_then files) is
@@ -60,45 +46,6 @@ pub of_file : (P : List ℕ → Type 0) (Q : Files → Type 0) (view : ShelfView
 of_file P Q view number name known is same some p f =
     known_file P Q name known some (subst (λ o. IfSome o P) (bytes_named view number name is ∙ ap (option_and_then (λ files. files name)) same) p) f
 
-abbrev one_file : FileName → Option (List ℕ) → Result (List File) Refusal
-one_file name bytes = ok_or bytes (absent name) >>= λ text. Ok (file_of name text ∷ [])
-
-pub load_absent : (files : Files) (date : ℕ) → files (file_text Rows) ≡ None → load files date ≡ Err (absent Rows)
-unfolding load
-load_absent files date none = ap (λ o. one_file Rows o >>= λ found. fold (dated empty date) found) none
-
-pub load_is : (files : Files) (date : ℕ) (bytes : List ℕ) → files (file_text Rows) ≡ Some bytes → load files date ≡ fold (dated empty date) (file_of Rows bytes ∷ [])
-unfolding load
-load_is files date bytes is = ap (λ o. one_file Rows o >>= λ found. fold (dated empty date) found) is
-
-abbrev two_files : ℕ → Option (List ℕ) → Option (List ℕ) → Result (List File) Refusal
-two_files date modified deleted =
-    ok_or modified (absent (Modifications date))
-    >>= λ text. one_file (Deletes date) deleted
-    >>= λ files. Ok (file_of (Modifications date) text ∷ files)
-
-day_by : (gaz : Gazetteer) (files : Files) (date : ℕ) → in_sequence gaz.date date ≡ Ok date → day gaz files date ≡ (two_files date (files (file_text (Modifications date))) (files (file_text (Deletes date))) >>= λ found. fold (dated gaz date) found)
-unfolding day
-day_by gaz files date next = ap (λ r. r >>= λ next. files_named files (day_files next) >>= λ found. fold (dated gaz next) found) next
-
-pub day_unmodified : (gaz : Gazetteer) (files : Files) (date : ℕ) → in_sequence gaz.date date ≡ Ok date → files (file_text (Modifications date)) ≡ None → day gaz files date ≡ Err (absent (Modifications date))
-day_unmodified gaz files date next none =
-    day_by gaz files date next
-    ∙ ap (λ o. two_files date o (files (file_text (Deletes date))) >>= λ found. fold (dated gaz date) found) none
-
-pub day_undeleted : (gaz : Gazetteer) (files : Files) (date : ℕ) (modified : List ℕ) → in_sequence gaz.date date ≡ Ok date → files (file_text (Modifications date)) ≡ Some modified → files (file_text (Deletes date)) ≡ None → day gaz files date ≡ Err (absent (Deletes date))
-day_undeleted gaz files date modified next is none =
-    day_by gaz files date next
-    ∙ ap (λ o. two_files date o (files (file_text (Deletes date))) >>= λ found. fold (dated gaz date) found) is
-    ∙ ap (λ o. two_files date (Some modified) o >>= λ found. fold (dated gaz date) found) none
-
-pub day_is : (gaz : Gazetteer) (files : Files) (date : ℕ) (modified deleted : List ℕ) → in_sequence gaz.date date ≡ Ok date → files (file_text (Modifications date)) ≡ Some modified → files (file_text (Deletes date)) ≡ Some deleted → day gaz files date ≡ (fold (dated gaz date) (file_of (Modifications date) modified ∷ []) >>= λ new. fold new (file_of (Deletes date) deleted ∷ []))
-day_is gaz files date modified deleted next is also =
-    day_by gaz files date next
-    ∙ ap (λ o. two_files date o (files (file_text (Deletes date))) >>= λ found. fold (dated gaz date) found) is
-    ∙ ap (λ o. two_files date (Some modified) o >>= λ found. fold (dated gaz date) found) also
-    ∙ fold-append (dated gaz date) (file_of (Modifications date) modified ∷ []) (file_of (Deletes date) deleted ∷ [])
-
 -- a refusal of the first is one of both
 pub gives_first : (r : Result Gazetteer Refusal) (f : Gazetteer → Result Gazetteer Refusal) (fault : ChangeFault) → Gives r (Err fault) → Gives (r >>= f) (Err fault)
 gives_first r f NotLoaded g = ap (λ x. x >>= f) g
@@ -114,20 +61,7 @@ gives_first r f Memory g = tt
 pub gives_same : (r s : Result Gazetteer Refusal) (result : Result Gazetteer ChangeFault) → r ≡ s → Gives r result → Gives s result
 gives_same r s result e g = subst (λ x. Gives x result) e g
 
-abbrev head : List ℕ → ℕ
-head [] = 0
-head (x ∷ xs) = x
-
-other_texts : (date : ℕ) → file_text (Modifications date) ≢ file_text (Deletes date)
-other_texts date same = absurd (omega (arith, ap head same))
-
--- the number of the first file still stands for it where that of the second was opened
-pub still_open : (date first second : ℕ) (old new : ShelfView) → old.opened first ≡ Some (file_text (Modifications date)) → OpensNumber (file_text (Deletes date)) old new second → (decided : (first ≡ second) ⊎ (first ≢ second)) → new.opened first ≡ Some (file_text (Modifications date))
-still_open date first second old new is opens (inl same) =
-    absurd (other_texts date (subst (λ o. IfSome o (λ earlier. earlier ≡ file_text (Deletes date))) (ap old.opened (sym same) ∙ is) opens.before))
-still_open date first second old new is opens (inr other) = opens.others first other ∙ is
-
-known_name : (name : List ℕ) (files : Files) (bytes : Option (List ℕ)) → files name ≡ bytes → IsSome bytes → (text : List ℕ) × (files name ≡ Some text)
+pub known_name : (name : List ℕ) (files : Files) (bytes : Option (List ℕ)) → files name ≡ bytes → IsSome bytes → (text : List ℕ) × (files name ≡ Some text)
 known_name name files None is some = absurd (cc)
 known_name name files (Some text) is some = (text, is)
 
@@ -152,24 +86,6 @@ pub finds_then : (old mid new : ShelfView) → FindsFiles old mid → SameFiles 
 finds_then old mid new (inl same) stay = inl (record { told = stay.told ∙ same.told; files = stay.files ∙ same.files; earlier = stay.earlier ∙ same.earlier })
 finds_then old mid new (inr other) stay = inr (record { told = stay.told ∙ other.told; closed = other.closed; earlier = stay.earlier ∙ other.earlier })
 
-pub same_then : (old mid new : ShelfView) → SameFiles old mid → SameFiles mid new → SameFiles old new
-same_then old mid new same stay = record { told = stay.told ∙ same.told; files = stay.files ∙ same.files; earlier = stay.earlier ∙ same.earlier }
-
--- the second file couldn't be opened
-pub second_fault : (gaz : Gazetteer) (date : ℕ) (mid new : ShelfView) (fault : ChangeFault) → in_sequence gaz.date date ≡ Ok date → IfSome (files_of mid) (λ files. IsSome (files (file_text (Modifications date)))) → files_of new ≡ files_of mid → Opened (Deletes date) mid new (Err fault) → IfSome (files_of new) (λ files. Gives (day gaz files date) (Err fault))
-second_fault gaz date mid new NotLoaded next some same h = absurd h
-second_fault gaz date mid new (Sequence have) next some same h = absurd h
-second_fault gaz date mid new (Absent file) next some same h =
-    both_known (files_of new) (told_before (λ files. IsSome (files (file_text (Modifications date)))) new mid (sym same) some) h.2
-    (λ files there none.
-    let text = known_name (file_text (Modifications date)) files (files (file_text (Modifications date))) refl there in
-    day_undeleted gaz files date text.0 next text.1 none ∙ ap (λ n. Err (absent n)) (sym h.0))
-second_fault gaz date mid new (Shelf file) next some same h = always (files_of new) (λ files. tt)
-second_fault gaz date mid new (TooLong file) next some same h = absurd h
-second_fault gaz date mid new (Malformed file line reason) next some same h = absurd h
-second_fault gaz date mid new (Full file line table) next some same h = absurd h
-second_fault gaz date mid new Memory next some same h = absurd h
-
 -- what a file comes to, with its bytes
 pub record FileGives (files : Files) (name : FileName) (first : Gazetteer) (result : Result Gazetteer ChangeFault) : Type 0 where
   pub bytes : List ℕ
@@ -180,24 +96,6 @@ pub file_gives : (name : FileName) (first : Gazetteer) (result : Result Gazettee
 file_gives name first result view number known is same some gives =
     of_file (λ bytes. Gives (fold first (file_of name bytes ∷ [])) result) (λ files. FileGives files name first result) view number (file_text name) known is same some gives
     (λ files text stands h. record { bytes = text; stands = stands; gives = h })
-
--- the first file of a day comes to a fault
-pub day_first_fault : (gaz : Gazetteer) (date : ℕ) (known : Option Files) (first : Gazetteer) (fault : ChangeFault) → in_sequence gaz.date date ≡ Ok date → first ≡ dated gaz date → IfSome known (λ files. FileGives files (Modifications date) first (Err fault)) → IfSome known (λ files. IsSome (files (file_text (Deletes date)))) → IfSome known (λ files. Gives (day gaz files date) (Err fault))
-day_first_fault gaz date known first fault next is modified deleted =
-    both_known known modified deleted (λ files m there.
-    let d = known_name (file_text (Deletes date)) files (files (file_text (Deletes date))) refl there in
-    gives_same _ _ (Err fault) (sym (day_is gaz files date m.bytes d.0 next m.stands d.1))
-    (gives_first (fold (dated gaz date) (file_of (Modifications date) m.bytes ∷ [])) (λ new. fold new (file_of (Deletes date) d.0 ∷ [])) fault
-    (gives_same _ _ (Err fault) (ap (λ x. fold x (file_of (Modifications date) m.bytes ∷ [])) is) m.gives)))
-
--- both files of a day were folded
-pub day_second : (gaz : Gazetteer) (date : ℕ) (known : Option Files) (first mid : Gazetteer) (result : Result Gazetteer ChangeFault) → in_sequence gaz.date date ≡ Ok date → first ≡ dated gaz date → IfSome known (λ files. FileGives files (Modifications date) first (Ok mid)) → IfSome known (λ files. FileGives files (Deletes date) mid result) → IfSome known (λ files. Gives (day gaz files date) result)
-day_second gaz date known first mid result next is modified deleted =
-    both_known known modified deleted (λ files m d.
-    gives_same _ _ _
-    (sym (ap (λ r. r >>= λ new. fold new (file_of (Deletes date) d.bytes ∷ [])) (ap (λ x. fold x (file_of (Modifications date) m.bytes ∷ [])) (sym is) ∙ m.gives))
-    ∙ sym (day_is gaz files date m.bytes d.bytes next m.stands d.stands))
-    d.gives)
 
 -- The numbers are as they were or none is open, also after one more request.
 pub closes_on : (names : List FileName) (first mid new : ShelfView) → SameNumbers first mid ⊎ NoneOpen mid → Closes names mid new → SameNumbers first new ⊎ NoneOpen new

@@ -14,8 +14,8 @@ use Rattle.gaz_lines.proofs.Rests.{rest_with}
 use Rattle.gaz_lines.proofs.Told.{Told, told_start, told_line, told_too_long, told_end}
 use Rattle.gaz_plain.specs.Gazetteer.{Gazetteer, LineFault, is_one_line, after_line, after_check, malformed as malformed_line, full as full_line}
 use Rattle.gaz_plain.specs.Faults.{IsFaultOf}
-use Rattle.gaz_plain.specs.declared.plain_gaz.PlainFault.{PlainFault}
-use Rattle.gaz_plain.specs.declared.plain_gaz.PlainFault.TheVariants as plain_fault
+use Rattle.gaz_plain.specs.declared.fault.PlainFault.{PlainFault}
+use Rattle.gaz_plain.specs.declared.fault.PlainFault.TheVariants as plain_fault
 use Rattle.gaz_outside.specs.Outside.{ShelfView, bytes_of}
 use Rattle.gaz_lines.specs.Cutter.{rest, line_limit_of, file_limit_of, line_of, place_of, IsFresh}
 use Rattle.gaz_lines.specs.Files.{left_at, place_in}

@@ -1,5 +1,5 @@
 -- A run of the program keeps what it finds.
-use Rattle.std.proofs.Common.{◌≡◌, ◌≢◌, ◌⊎◌, ℕ, IsTrue, List, [], ◌∷◌, ◌++◌, take, length, length-append, refl, sym, ap, arith, subst, ◌∙◌, Option, Some, inl, inr}
+use Rattle.std.proofs.Common.{◌≡◌, ◌≢◌, ◌⊎◌, ℕ, IsTrue, List, [], ◌∷◌, ◌++◌, take, length, length-append, sym, ap, arith, subst, ◌∙◌, Option, Some, inl, inr}
 use Rattle.std.proofs.Transfers.{drop-appended}
 use Rattle.std.proofs.Math.Seq.{take-append_seam}
 use Rattle.std.proofs.lemmas.Bool.{cases_eq}

@@ -1,5 +1,5 @@
 -- Rows that are printed one after another, and the answer to a search.
-use Rattle.std.proofs.Common.{◌≡◌, ℕ, suc, ◌+◌, ◌-◌, ◌≤◌, pos, List, [], ◌∷◌, ◌++◌, length, get_or, take, drop, append-nil, true≢false, refl, sym, ap, ◌∙◌, arith, Option, Some, None}
+use Rattle.std.proofs.Common.{◌≡◌, ℕ, suc, ◌+◌, ◌-◌, ◌≤◌, pos, List, [], ◌∷◌, ◌++◌, length, get_or, take, drop, append-nil, true≢false, refl, sym, ap, ◌∙◌, arith, Option, Some}
 use Rattle.std.specs.Prelude.{Result, Ok, Err, IsOk}
 use Rattle.std.specs.List.{cons_option}
 use Rattle.std.proofs.lemmas.Grind.{common_steps}

@@ -1,5 +1,5 @@
 -- A run of the program in which no mirror opened.
-use Rattle.std.proofs.Common.{◌≡◌, ◌≢◌, ◌⊎◌, inl, inr, ◌^◌, ◌<◌, ◌≤◌, ℕ, Bool, IsTrue, arith, refl, sym, subst, None}
+use Rattle.std.proofs.Common.{◌≡◌, ◌≢◌, ◌⊎◌, inl, inr, ◌^◌, ◌<◌, ◌≤◌, ℕ, Bool, IsTrue, arith, refl, sym, subst}
 use Rattle.gaz_outside.specs.Outside.{SourceView, ShelfView, StationView, RisesOnce, left_of}
 use Rattle.gaz_outside.specs.Station.{Outcome, Leaves}
 use Rattle.gaz_outside.proofs.Runs.{begins, confined_start, leaves_weaker}

@@ -3,11 +3,12 @@ use Rattle.std.specs.Prelude.{◌≡◌, ℕ, ⊤, List, [], ◌∷◌, Some, No
 use Rattle.gaz_outside.specs.Outside.{ShelfView, RisesOnce, SameFiles, FindsFiles, SameNumbers, NoneOpen, OpensNumber, files_of}
 use Rattle.gaz_num.specs.declared.words.FileName.{FileName}
 use Rattle.gaz_num.specs.Words.{file_text}
-use Rattle.gaz_num.specs.Refusal.{Refusal, not_loaded, sequence, absent, shelf, too_long, malformed, full, memory}
+use Rattle.gaz_num.specs.Refusal.{Refusal, not_loaded, sequence, absent, shelf, too_long, malformed, full, memory, ◌>>=◌}
 use Rattle.gaz_plain.specs.Gazetteer.{Gazetteer}
-use Rattle.gaz_plain.specs.Load.{Files}
-use Rattle.gaz_plain.specs.declared.plain_gaz.PlainFault.{PlainFault}
-use Rattle.gaz_plain.specs.declared.plain_gaz.PlainFault.TheVariants as plain_fault
+use Rattle.gaz_plain.specs.Fold.{fold}
+use Rattle.gaz_plain.specs.Load.{Files, files_of as files_named}
+use Rattle.gaz_plain.specs.declared.fault.PlainFault.{PlainFault}
+use Rattle.gaz_plain.specs.declared.fault.PlainFault.TheVariants as plain_fault
 use Rattle.gaz_turns.specs.Turns.{IsReached}
 use Rattle.gaz_serve.specs.declared.change.ChangeFault.{ChangeFault}
 use Rattle.gaz_serve.specs.declared.change.ChangeFault.TheVariants.{NotLoaded, Sequence, Absent, Shelf, TooLong, Malformed, Full, Memory}
@@ -61,6 +62,28 @@ Opened name old new (Ok number) = OpensNumber (file_text name) old new number ×
 Opened name old new (Err (Absent file)) = (file ≡ name) × SameNumbers old new × IfSome (files_of new) (λ files. files (file_text name) ≡ None)
 Opened name old new (Err (Shelf file)) = (file ≡ name) × SameNumbers old new
 Opened name old new (Err other) = ⊥
+
+-- Each number stands for its name; there may be more numbers.
+abbrev pub AreOpen : List FileName → List ℕ → ShelfView → Type 0
+AreOpen [] numbers view = ⊤
+AreOpen (name ∷ names) [] view = ⊥
+AreOpen (name ∷ names) (number ∷ numbers) view = (view.opened number ≡ Some (file_text name)) × AreOpen names numbers view
+
+-- Each file is there.
+abbrev pub AreThere : Files → List FileName → Type 0
+AreThere files [] = ⊤
+AreThere files (name ∷ names) = IsSome (files (file_text name)) × AreThere files names
+
+-- The files are there, or the first that isn't is told, or the shelf failed at one and none before it is absent.
+abbrev pub AreFound : {A : Type 0} → Files → List FileName → Result A ChangeFault → Type 0
+AreFound files names (Ok _) = AreThere files names
+AreFound files names (Err (Absent file)) = files_named files names ≡ Err (absent file)
+AreFound files names (Err (Shelf file)) = IsReached files file names
+AreFound files names (Err other) = ⊥
+
+-- what a gazetteer becomes by the files of these names, or the first that is absent
+abbrev pub fold_named : Files → List FileName → Gazetteer → Result Gazetteer Refusal
+fold_named files names gaz = files_named files names >>= λ found. fold gaz found
 
 -- the fault of a line of a file, for that of its step
 abbrev pub fault_at : FileName → ℕ → PlainFault → ChangeFault

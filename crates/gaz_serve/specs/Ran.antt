@@ -1,5 +1,5 @@
 -- How a run of requests may end.
-use Rattle.std.specs.Prelude.{◌≡◌, ◌≢◌, ◌≤◌, ℕ, length, ◌+◌, ◌-◌, ◌^◌, ◌⊎◌, min, Bool, true, false, List, [], ◌∷◌, ◌++◌, map, count_by, Option, None, IfSome, IsTrue, Some, is_some, option_map, unwrap_or, flat_map}
+use Rattle.std.specs.Prelude.{◌≡◌, ◌≢◌, ◌≤◌, ℕ, length, ◌+◌, ◌-◌, ◌^◌, ◌⊎◌, min, Bool, true, false, List, [], ◌∷◌, ◌++◌, map, count_by, Option, IfSome, IsTrue, Some, is_some, option_map, unwrap_or, flat_map}
 use Rattle.std.specs.List.{AllByRecursion}
 use Rattle.std.specs.Io.KnownBytes.{append_known}
 use Rattle.gaz_outside.specs.declared.station.Area.{Area}

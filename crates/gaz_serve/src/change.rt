@@ -1,11 +1,11 @@
 //! Loads and days: the files of a request are opened in order, and their lines are folded into a gazetteer.
-ghost use Rattle.std.specs.Prelude.{◌≡◌, ◌^◌, ◌∷◌, [], ℕ, Some, None, Ok, IsSome, IfOk, IfErr, IfSome, OnOk};
+ghost use Rattle.std.specs.Prelude.{◌≡◌, ◌≤◌, ◌^◌, ◌∷◌, [], ℕ, length, Some, None, Ok, IsSome, IfOk, IfErr, IfSome, OnOk};
 ghost use Rattle.gaz_outside.specs.Outside.{FindsFiles, SameFiles, SameNumbers, files_of, bytes_of};
 ghost use Rattle.gaz_num.specs.Words.{file_text};
 ghost use Rattle.gaz_lines.specs.Cutter.{line_limit_of, file_limit_of};
 ghost use Rattle.gaz_plain.specs.Fold.{fold};
 ghost use Rattle.gaz_plain.specs.Load.{load, day, load_files, day_files, in_sequence};
-ghost use Rattle.gaz_serve.specs.Change.{refusal_by, Gives, Opened, Blamed, BlamesReached, IsFaultOfFile, IsOfDate, fault_at};
+ghost use Rattle.gaz_serve.specs.Change.{refusal_by, fold_named, Gives, Opened, AreOpen, AreThere, AreFound, Blamed, BlamesReached, IsFaultOfFile, IsOfDate, fault_at};
 
 use gaz_lines::{LineCutter, LineFault};
 use gaz_num::{Day, FileName, Reason, Table, next_day, write_file_name};
@@ -124,6 +124,82 @@ pub(crate) fn fold_file<F: Shelf>(
     }
 }
 
+/// The most files that a request reads.
+const MOST_FILES: usize = 4;
+
+/// The files of a load, in the order in which they are read.
+fn files_of_load() -> [FileName; 2]
+    ensures { result ≡ load_files }
+{
+    [FileName::Rows, FileName::Alternates]
+}
+
+/// The files of a day, in the order in which they are read.
+fn files_of_day(date: Day) -> [FileName; 4]
+    ensures { result ≡ day_files date }
+{
+    [
+        FileName::Modifications(date),
+        FileName::Deletes(date),
+        FileName::AltModifications(date),
+        FileName::AltDeletes(date),
+    ]
+}
+
+/// Opens the files of a request in order, and puts their numbers to the front of `numbers`.
+fn open_files<F: Shelf>(
+    shelf: &mut F,
+    names: &[FileName],
+    numbers: &mut [u64],
+) -> Result<(), ChangeFault>
+    requires room { length names.now ≤ length numbers.old }
+    ensures opened { OnOk result (AreOpen names.now numbers.new (F.view shelf.new)) }
+    ensures found { IfSome (files_of (F.view shelf.new)) (λ files. AreFound files names.now result) }
+    ensures blamed { Blamed (F.view shelf.old) (F.view shelf.new) result }
+    ensures files { FindsFiles (F.view shelf.old) (F.view shelf.new) }
+    ensures room { length numbers.new ≡ length numbers.old }
+{
+    for place in 0..names.len() {
+        match open_file(shelf, &names[place]) {
+            Ok(number) => numbers[place] = number,
+            Err(fault) => return Err(fault),
+        }
+    }
+    Ok(())
+}
+
+/// Folds the lines of open files in order into a gazetteer with a date, up to the first refusal.
+fn fold_files<F: Shelf>(
+    gaz: PlainGaz,
+    shelf: &mut F,
+    cutter: &mut LineCutter,
+    names: &[FileName],
+    numbers: &[u64],
+) -> Result<PlainGaz, ChangeFault>
+    requires dated { IsSome gaz.date }
+    requires room { length names.now ≤ length numbers.now }
+    requires open { AreOpen names.now numbers.now (F.view shelf.old) }
+    requires there { IfSome (files_of (F.view shelf.old)) (λ files. AreThere files names.now) }
+    requires line_limit { line_limit_of cutter.old ≡ 65535 }
+    requires file_limit { file_limit_of cutter.old ≡ 2 ^ 40 }
+    ensures gives { IfSome (files_of (F.view shelf.new)) (λ files. Gives (fold_named files names.now gaz) result) }
+    ensures dated { IfOk result (λ new. new.date ≡ gaz.date) }
+    ensures reached { IfSome (files_of (F.view shelf.new)) (λ files. BlamesReached files names.now result) }
+    ensures blamed { Blamed (F.view shelf.old) (F.view shelf.new) result }
+    ensures same { SameFiles (F.view shelf.old) (F.view shelf.new) }
+    ensures line_limit { line_limit_of cutter.new ≡ line_limit_of cutter.old }
+    ensures file_limit { file_limit_of cutter.new ≡ file_limit_of cutter.old }
+{
+    let mut gaz = gaz;
+    for place in 0..names.len() {
+        gaz = match fold_file(gaz, shelf, cutter, &names[place], numbers[place]) {
+            Ok(next) => next,
+            Err(fault) => return Err(fault),
+        };
+    }
+    Ok(gaz)
+}
+
 /// What a load makes, with open files behind it.
 pub(crate) fn loaded<F: Shelf>(
     alloc: Global,
@@ -141,13 +217,15 @@ pub(crate) fn loaded<F: Shelf>(
     ensures line_limit { line_limit_of cutter.new ≡ line_limit_of cutter.old }
     ensures file_limit { file_limit_of cutter.new ≡ file_limit_of cutter.old }
 {
-    let rows = match open_file(shelf, &FileName::Rows) {
-        Ok(file) => file,
+    let names = files_of_load();
+    let mut numbers = [0; MOST_FILES];
+    match open_files(shelf, &names, &mut numbers) {
+        Ok(()) => {}
         Err(fault) => return Err(fault),
-    };
+    }
     let mut gaz = PlainGaz::new(alloc);
     gaz.set_date(date);
-    fold_file(gaz, shelf, cutter, &FileName::Rows, rows)
+    fold_files(gaz, shelf, cutter, &names, &numbers)
 }
 
 /// Whether the date is the one after the gazetteer's.
@@ -181,22 +259,15 @@ pub(crate) fn next_gazetteer<F: Shelf>(
     ensures line_limit { line_limit_of cutter.new ≡ line_limit_of cutter.old }
     ensures file_limit { file_limit_of cutter.new ≡ file_limit_of cutter.old }
 {
-    let modifications = FileName::Modifications(date);
-    let deletes = FileName::Deletes(date);
-    let modified = match open_file(shelf, &modifications) {
-        Ok(file) => file,
+    let names = files_of_day(date);
+    let mut numbers = [0; MOST_FILES];
+    match open_files(shelf, &names, &mut numbers) {
+        Ok(()) => {}
         Err(fault) => return Err(fault),
-    };
-    let deleted = match open_file(shelf, &deletes) {
-        Ok(file) => file,
-        Err(fault) => return Err(fault),
-    };
+    }
     let Ok(mut next) = gaz.copy() else {
         return Err(ChangeFault::Memory);
     };
     next.set_date(date);
-    match fold_file(next, shelf, cutter, &modifications, modified) {
-        Ok(next) => fold_file(next, shelf, cutter, &deletes, deleted),
-        Err(fault) => Err(fault),
-    }
+    fold_files(next, shelf, cutter, &names, &numbers)
 }

@@ -1,16 +1,18 @@
 -- A text that is written piece by piece.
-use Rattle.std.proofs.Common.{◌≡◌, ℕ, zero, suc, ◌+◌, ◌-◌, ◌<◌, ◌≤◌, max, List, [], ◌∷◌, ◌++◌, length, take, drop, sym, ◌∙◌, ap, subst, arith, append_assoc, length-append, Some, None, Result, Ok, Err, OnOk}
-use Rattle.std.specs.Prelude.{slice_get, ◌^◌}
+use Rattle.std.proofs.Common.{◌≡◌, ℕ, ◌+◌, ◌-◌, ◌<◌, ◌≤◌, max, List, [], ◌∷◌, ◌++◌, length, take, drop, get_or, sym, ◌∙◌, ap, subst, arith, append_assoc, length-append, Result, Ok, Err, OnOk}
 use Rattle.std.proofs.lemmas.List.{append-nil, length-take, length-drop, take_all, take-append-drop}
 use Rattle.gaz_outside.specs.Station.{overlaid, StationView, Counts}
 use Rattle.gaz_outside.specs.Overlaid.{length-overlaid}
 use Rattle.gaz_redo.specs.Recovered.{OnlyRise}
 use Rattle.gaz_redo.specs.Slots.{StartsWith}
 use Rattle.gaz_redo.proofs.Written.{append_written}
-use Rattle.gaz_plain.specs.Gazetteer.{Gazetteer, IsGazetteer}
+use Rattle.gaz_num.specs.declared.words.Table.{Table}
+use Rattle.gaz_plain.specs.Gazetteer.{Gazetteer, IsGazetteer, lines_in}
 use Rattle.gaz_plain.specs.Text.{lined, text_of}
 use Rattle.gaz_open.specs.Content.{HasText}
-use Rattle.gaz_open.proofs.Back.{all_rows, text_short}
+use Rattle.gaz_open.specs.Tables.{tables, lines_of}
+use Rattle.gaz_open.proofs.Back.{all_listed, lined_both}
+use Rattle.gaz_open.proofs.Parsed.{next_table}
 use Rattle.gaz_store.specs.declared.writer.TextWriter.{TextWriter}
 use Rattle.gaz_store.specs.Written.{held, IsWritten}
 
@@ -88,42 +90,28 @@ split_on bytes front rest behind n is split =
     let same : drop n rest ≡ behind = sym (is ∙ take_all (length rest - n) (drop n rest) (omega (arith, length-drop n rest))) in
     split ∙ ap (λ (t : List ℕ). front ++ t) (sym (take-append-drop n rest) ∙ ap (λ (t : List ℕ). take n rest ++ t) same) ∙ sym (append_assoc front (take n rest) behind)
 
--- the text of one row more
-pub lined_more : (rows : List (List ℕ)) (n : ℕ) (row : List ℕ) → slice_get rows n ≡ Some row → lined (take (n + 1) rows) ≡ lined (take n rows) ++ (row ++ 10 ∷ [])
-lined_more [] n row got = absurd (cc got)
-lined_more (x ∷ rows) zero row got =
-    let same : x ≡ row = cc got in
-    ap (λ (l : List ℕ). (l ++ 10 ∷ []) ++ []) same ∙ append-nil (row ++ 10 ∷ [])
-lined_more (x ∷ rows) (suc n) row got =
-    let step : suc n + 1 ≡ suc (n + 1) = omega arith in
-    ap (λ (k : ℕ). lined (take k (x ∷ rows))) step
-    ∙ ap (λ (l : List ℕ). (x ++ 10 ∷ []) ++ l) (lined_more rows n row got)
-    ∙ sym (append_assoc (x ++ 10 ∷ []) (lined (take n rows)) (row ++ 10 ∷ []))
+-- the text of one line more
+pub lined_more : (done rest lines : List (List ℕ)) (line : List ℕ) → lines ≡ done ++ line ∷ rest → (lines ≡ (done ++ line ∷ []) ++ rest) × (lined (done ++ line ∷ []) ≡ lined done ++ (line ++ 10 ∷ []))
+lined_more done rest lines line is = (
+  is ∙ sym (append_assoc done (line ∷ []) rest),
+  lined_both done (line ∷ []) ∙ ap (λ (text : List ℕ). lined done ++ text) (append-nil (line ++ 10 ∷ [])),
+)
 
--- the text of the rows so far is no longer than the whole
-pub lined_front : (rows : List (List ℕ)) (n : ℕ) → length (lined (take n rows)) ≤ length (lined rows)
-lined_front rows zero = omega arith
-lined_front [] (suc n) = omega arith
-lined_front (row ∷ rows) (suc n) =
-    let less = lined_front rows n in
-    omega (arith, less, length-append (row ++ 10 ∷ []) (lined (take n rows)), length-append (row ++ 10 ∷ []) (lined rows))
+-- the length of the text of a line and others
+pub lined_first : (line : List ℕ) (rest lines : List (List ℕ)) → lines ≡ line ∷ rest → length (lined lines) ≡ length line + 1 + length (lined rest)
+lined_first line rest lines is =
+    ap (λ (ls : List (List ℕ)). length (lined ls)) is ∙ omega (arith, length-append (line ++ 10 ∷ []) (lined rest), length-append line (10 ∷ []))
 
-pub length-more : (rows : List (List ℕ)) (n : ℕ) (row : List ℕ) → slice_get rows n ≡ Some row → length (lined (take (n + 1) rows)) ≡ length (lined (take n rows)) + (length row + 1)
-length-more rows n row got =
-    ap length (lined_more rows n row got) ∙ omega (arith, length-append (lined (take n rows)) (row ++ 10 ∷ []), length-append row (10 ∷ []))
+-- the text of one table more
+pub next_text : (all : List Table) (place : ℕ) (d : Table) (gaz : Gazetteer) → place < length all → lined (lines_of (drop place all) gaz) ≡ lined (lines_in gaz (get_or all place d)) ++ lined (lines_of (drop (place + 1) all) gaz)
+next_text all place d gaz below =
+    ap (λ (ts : List Table). lined (lines_of ts gaz)) (next_table place all d below)
+    ∙ lined_both (lines_in gaz (get_or all place d)) (lines_of (drop (place + 1) all) gaz)
 
-pub all_rows_lined : (gaz : Gazetteer) (n : ℕ) → IsGazetteer gaz → n ≡ length gaz.rows → lined (take n gaz.rows) ≡ text_of gaz
-all_rows_lined gaz n is all = ap lined (take_all n gaz.rows (omega (arith, all)) ∙ sym (all_rows gaz is))
-
-pub front_short : (gaz : Gazetteer) (n : ℕ) → IsGazetteer gaz → length (lined (take n gaz.rows)) < 2 ^ 42
-front_short gaz n is = let whole = text_short gaz is in let less = lined_front gaz.rows n in let same = ap (λ (l : List (List ℕ)). length (lined l)) (all_rows gaz is) in omega (arith, whole, less, same)
+-- the text of all tables is that of the gazetteer
+pub all_texts : (all : List Table) (gaz : Gazetteer) → IsGazetteer gaz → all ≡ tables → lined (lines_of all gaz) ≡ text_of gaz
+all_texts all gaz is same = ap (λ (ts : List Table). lined (lines_of ts gaz)) same ∙ ap lined (sym (all_listed gaz is))
 
 pub always_ok : {A E : Type 0} (result : Result A E) (P : Type 0) → P → OnOk result P
 always_ok (Ok a) P holds = holds
 always_ok (Err e) P holds = tt
-
--- a row within the count is there
-pub no_row : (rows : List (List ℕ)) (n : ℕ) → n < length rows → slice_get rows n ≡ None → ⊥
-no_row [] n lt none = absurd (omega (arith, lt))
-no_row (row ∷ rows) zero lt none = cc none
-no_row (row ∷ rows) (suc n) lt none = no_row rows n (omega (arith, lt)) none

@@ -22,7 +22,7 @@ fn root_for(side: Side, day: Day, gaz: &PlainGaz) -> PlainRoot
         day,
         counts: LineCounts {
             rows: gaz.count(Table::Rows),
-            alternates: 0,
+            alternates: gaz.count(Table::Alternates),
             links: 0,
             countries: 0,
             codes: 0,

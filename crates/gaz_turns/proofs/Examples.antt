@@ -1,7 +1,7 @@
 -- Worked runs, what their text acknowledges, and a stop inside a commit.
 use Rattle.std.proofs.Common.{◌≡◌, ℕ, List, [], ◌∷◌, ◌++◌, length, inr, refl, sym, ap, arith, Some, None, take}
-use Rattle.std.specs.Prelude.{codes, if◌then◌else◌}
-use Rattle.std.specs.Str.{is_utf8, chars, bytes_eq}
+use Rattle.std.specs.Prelude.{codes}
+use Rattle.std.specs.Str.{is_utf8, chars}
 use Rattle.std.specs.Fmt.{digits}
 use lib.Utf8.{encode}
 use Rattle.jiff_core.specs.Calendar.{days_from_civil, days_of_years, days_of_months, day_count}
@@ -16,15 +16,16 @@ use Rattle.gaz_reply.specs.Reply.{acks}
 use Rattle.gaz_turns.specs.Turns.{Turn, Verdict, plain, memory}
 use Rattle.gaz_turns.specs.Head.{Course, IsStop, after_changes, replies_of}
 
-abbrev no_rows : Files
-no_rows name = if bytes_eq name (codes "allCountries.txt") then Some [] else None
+-- each file is there and empty
+abbrev no_lines : Files
+no_lines name = Some []
 
 abbrev turn : Files → Verdict → List ℕ → Turn
 turn files verdict line = record { line = line; verdict = verdict; files = files }
 
 -- a load for which memory is wanting, a load, a get
 abbrev course : Course
-course = record { first = record { gaz = empty }; turns = turn no_rows memory (codes "load 0000-01-06") ∷ turn no_rows plain (codes "load 0000-01-06") ∷ turn no_rows plain (codes "get 1") ∷ [] }
+course = record { first = record { gaz = empty }; turns = turn no_lines memory (codes "load 0000-01-06") ∷ turn no_lines plain (codes "load 0000-01-06") ∷ turn no_lines plain (codes "get 1") ∷ [] }
 
 abbrev text : List ℕ
 text = codes "refused memory\nok load 0000-01-06\nok 0\n"

@@ -5,7 +5,7 @@ use Rattle.std.specs.List.{AllByRecursion, cons_option}
 use Rattle.gaz_num.specs.declared.words.Reason.{Reason}
 use Rattle.gaz_num.specs.declared.words.Reason.TheVariants.{Length, Utf8, Columns, Id, Latitude, Longitude, Population, Elevation, Dem, Date}
 use Rattle.gaz_num.specs.declared.words.FileName.{FileName}
-use Rattle.gaz_num.specs.declared.words.FileName.TheVariants.{Input, Rows, Modifications, Deletes}
+use Rattle.gaz_num.specs.declared.words.FileName.TheVariants.{Input, Rows, Alternates, Modifications, Deletes, AltModifications, AltDeletes}
 use Rattle.gaz_num.specs.declared.words.Table.{Table}
 use Rattle.gaz_num.specs.declared.words.Table.TheVariants as table_of_name
 use Rattle.gaz_num.specs.Dates.{day_in, date_text}
@@ -104,11 +104,17 @@ refused_marked why line = record {
   marks = count_one is_ack (spaced (codes "refused" ∷ refusal_words why)) false (refusal_starts (refusal_words why));
 }
 
+daily_line : (front : List ℕ) (date : ℕ) → IsOneLine front → IsOneLine (front ++ date_text date ++ codes ".txt")
+daily_line front date is = no_byte_both 10 (front ++ date_text date) (codes ".txt") (no_byte_both 10 front (date_text date) is (date_line date)) refl
+
 file_line : (file : FileName) → IsOneLine (file_text file)
 file_line Input = refl
 file_line Rows = refl
-file_line (Modifications date) = no_byte_both 10 (codes "modifications-" ++ date_text date) (codes ".txt") (no_byte_both 10 (codes "modifications-") (date_text date) refl (date_line date)) refl
-file_line (Deletes date) = no_byte_both 10 (codes "deletes-" ++ date_text date) (codes ".txt") (no_byte_both 10 (codes "deletes-") (date_text date) refl (date_line date)) refl
+file_line Alternates = refl
+file_line (Modifications date) = daily_line (codes "modifications-") date refl
+file_line (Deletes date) = daily_line (codes "deletes-") date refl
+file_line (AltModifications date) = daily_line (codes "alternateNamesModifications-") date refl
+file_line (AltDeletes date) = daily_line (codes "alternateNamesDeletes-") date refl
 
 reason_line : (reason : Reason) → IsOneLine (reason_text reason)
 reason_line Length = refl
@@ -124,6 +130,7 @@ reason_line Date = refl
 
 table_line : (table : Table) → IsOneLine (table_text table)
 table_line table_of_name.Rows = refl
+table_line table_of_name.Alternates = refl
 
 absent_line : (file : FileName) → IsLine (refusal.absent file)
 absent_line file = words_line (codes "refused" ∷ codes "absent" ∷ file_text file ∷ []) (refl, (refl, (file_line file, tt)))

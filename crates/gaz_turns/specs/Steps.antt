@@ -1,5 +1,5 @@
 -- What one request does to a device, and what a run of requests does.
-use Rattle.std.specs.Prelude.{◌≡◌, ◌⊎◌, ℕ, false, List, [], ◌∷◌, ◌++◌, map, Some, Result, OnOk, IsTrue}
+use Rattle.std.specs.Prelude.{◌≡◌, ◌⊎◌, ℕ, false, List, [], ◌∷◌, ◌++◌, map, Result, OnOk, IsTrue}
 use Rattle.gaz_outside.specs.Outside.{ShelfView, Prints}
 use Rattle.gaz_outside.specs.Station.{StationView, Outcome, LeavesOnly, HasFrontOf, AreasStay}
 use Rattle.gaz_reply.specs.Reply.{reply_text, is_change}

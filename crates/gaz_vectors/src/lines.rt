@@ -1,6 +1,6 @@
 //! Lines of the export, and requests.
 use gaz_num::{count_fields, field, read_count};
-use gaz_plain::check_delete;
+use gaz_alt::{Alt, check_alt, check_delete};
 use gaz_row::{Row, check_row};
 use gaz_words::{Request, read_request};
 use std::io;
@@ -47,6 +47,24 @@ fn print_row(rt: &HostRuntime, row: &Row<'_>) -> io::Result<()> {
 pub(crate) fn tell_row(rt: &HostRuntime, line: &[u8]) -> io::Result<()> {
     match check_row(line) {
         Ok(_) => print_row(rt, &Row::of(line)),
+        Err(reason) => {
+            let reason = reason.text();
+            println!(rt; "refused {reason}")
+        }
+    }
+}
+
+/// What the view of an accepted alternate name shows.
+fn print_alternate(rt: &HostRuntime, alternate: &Alt<'_>) -> io::Result<()> {
+    let (id, place) = (alternate.id(), alternate.place());
+    let (language, text) = (alternate.language(), alternate.text());
+    println!(rt; "{id} of {place} <{language}> <{text}>")
+}
+
+/// A line of alternate names: its columns, or the first reason against it.
+pub(crate) fn tell_alternate(rt: &HostRuntime, line: &[u8]) -> io::Result<()> {
+    match check_alt(line) {
+        Ok(_) => print_alternate(rt, &Alt::of(line)),
         Err(reason) => {
             let reason = reason.text();
             println!(rt; "refused {reason}")

@@ -10,7 +10,7 @@ mod numbers;
 mod replies;
 
 use boxes::{tell_band, tell_box};
-use lines::{tell_delete, tell_field, tell_request, tell_row};
+use lines::{tell_alternate, tell_delete, tell_field, tell_request, tell_row};
 use numbers::{tell_date, tell_degrees, tell_signed, tell_unsigned};
 use replies::tell_reply;
 use std::io;
@@ -24,6 +24,7 @@ fn tell(rt: &HostRuntime, word: &str, text: &str) -> io::Result<()> {
         "date" => tell_date(rt, text),
         "field" => tell_field(rt, text),
         "row" => tell_row(rt, text.as_bytes()),
+        "alternate" => tell_alternate(rt, text.as_bytes()),
         "delete" => tell_delete(rt, text.as_bytes()),
         "request" => tell_request(rt, text.as_bytes()),
         "reply" => tell_reply(rt, text),

@@ -16,6 +16,10 @@ fn refusal_of(name: &str, day: Day) -> Option<Refusal<'_>> {
         "malformed" => Refusal::Malformed(FileName::Input, 2, Reason::Columns),
         "last line" => Refusal::Malformed(FileName::Rows, u64::MAX, Reason::Population),
         "full" => Refusal::Full(FileName::Rows, 33_554_433, Table::Rows),
+        "full of alternates" => {
+            Refusal::Full(FileName::AltModifications(day), 5, Table::Alternates)
+        }
+        "longest name" => Refusal::Absent(FileName::AltModifications(day)),
         "memory" => Refusal::Memory,
         _ => return None,
     })

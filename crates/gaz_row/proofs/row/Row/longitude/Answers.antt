@@ -1,6 +1,7 @@
 use Rattle.std.proofs.Common.{ap, ◌∙◌}
 use Rattle.gaz_num.specs.Numbers.{degrees_in}
-use Rattle.gaz_row.proofs.AcceptedLemmas.{accepted, some_of}
+use Rattle.gaz_num.proofs.PassedLemmas.{some_of}
+use Rattle.gaz_row.proofs.AcceptedLemmas.{accepted}
 use Rattle.gaz_row.proofs.row.Row.longitude.Goals as goal
 
 pub unwrap-requires : goal.unwrap-requires

@@ -1,6 +1,7 @@
 use Rattle.std.proofs.Common.{sym, subst}
 use Rattle.std.specs.Prelude.{IsUtf8}
-use Rattle.gaz_row.proofs.AcceptedLemmas.{accepted_column, ok_of}
+use Rattle.gaz_num.proofs.PassedLemmas.{ok_of}
+use Rattle.gaz_row.proofs.AcceptedLemmas.{accepted_column}
 use Rattle.gaz_row.proofs.row.Row.text.Goals as goal
 
 pub unwrap-requires : goal.unwrap-requires
