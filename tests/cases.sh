@@ -21,7 +21,7 @@ cut_up() {
             close(case_folder "/name")
             next
         }
-        /^== no file / { path = ""; print substr($0, 12) > (case_folder "/left_out"); close(case_folder "/left_out"); next }
+        /^== no file / { put(); path = ""; print substr($0, 12) > (case_folder "/left_out"); close(case_folder "/left_out"); next }
         /^== file / { begin(case_folder "/files/" substr($0, 9)); next }
         /^== requests/ { begin(case_folder "/requests" substr($0, 12)); next }
         /^== replies/ { begin(case_folder "/replies" substr($0, 11)); next }

@@ -113,6 +113,7 @@ lines "$z2" > alternateNamesModifications-2024-03-02.txt
 check an_earlier_mirror "$("$program" serve <<< $'search name_equals=b\nsearch name_equals=zwei\nday 2024-03-02\nsearch name_equals=zwei\tsearchlang=de'; echo "status $?")" \
     "$b2"$'\nok 1\nok 0\nok day 2024-03-02\n'"$b2"$'\nok 1\nstatus 0'
 root 4 133 240 3 1 > ../r
+lines "$a1" "$b2" "$c3" > ../l
 lines "$a1" "$b2" "$c3" "$z2" > ../m
 areas_are a_day_over_an_earlier_mirror ../r ../l ../m
 check it_is_found_again "$("$program" serve <<< 'search name_equals=zwei')" "$b2"$'\nok 1'
