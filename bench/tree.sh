@@ -1,6 +1,7 @@
 #!/usr/bin/env bash
 # bench/tree.sh KEYS: puts so many keys of 32 bytes, rising and at random, gets each and goes over all by a scan, over pages in memory. Beside it in the
-# same run LMDB does so in one transaction over a file in /dev/shm, by a small C program, where its headers are there (Debian's liblmdb-dev).
+# same run std's BTreeMap does so, and LMDB in one transaction over a file in /dev/shm, by a small C program, where its headers are there (Debian's
+# liblmdb-dev).
 set -eu
 top=$(cd "$(dirname "$0")/.." && pwd)
 many=${1:?keys}
@@ -86,5 +87,6 @@ if cc -O2 -o "$folder/lmdb" "$folder/lmdb.c" -llmdb 2> "$folder/cc.log"; then ha
 for order in rising random; do
     echo "$order, $many keys"
     echo "  gaz_tree: $(three "$paging" "$order")"
+    echo "  BTreeMap: $(three "$paging" "map_$order")"
     if [ "$has_lmdb" = yes ]; then echo "  LMDB:     $(three "$folder/lmdb" "$folder/data" "$order")"; else echo "  LMDB isn't there"; fi
 done

@@ -13,3 +13,4 @@ pub mod ChainDrops
 pub mod Walks
 pub mod UsedUp
 pub mod AnyDrops
+pub mod Passing

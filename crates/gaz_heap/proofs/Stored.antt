@@ -21,12 +21,13 @@ none_used page end is free k =
     ]
 
 pub stored : (number slot : ℕ) (bytes read written : List ℕ) (old mid new : PagesView) → SamePages old mid → read ≡ old.page number → is_record_page number read ≡ true → Filled number slot bytes read written
-    → Writes number written mid new → Stores number slot bytes old new
-stored number slot bytes read written old mid new same is form filled writes =
+    → ((k : ℕ) → k < slot → is_used read k ≡ true) → Writes number written mid new → Stores number slot bytes old new
+stored number slot bytes read written old mid new same is form filled least writes =
     let there : new.page number ≡ written = (λ i. writes.pages i number) ∙ with_same number written mid.page in
     record {
       form = subst (λ (p : List ℕ). is_record_page number p ≡ true) is form;
       filled = subst (λ (p : List ℕ). Filled number slot bytes p (new.page number)) is (subst (λ (p : List ℕ). Filled number slot bytes read p) (sym there) filled);
+      least = λ k below. subst (λ (p : List ℕ). is_used p k ≡ true) is (least k below);
       others = λ n differs. (λ i. writes.pages i n) ∙ with_other number n written mid.page differs ∙ (λ i. same.pages i n);
       free = writes.free ∙ same.free;
       fresh = writes.fresh ∙ same.fresh;

@@ -6,6 +6,7 @@ use Rattle.gaz_page.specs.declared.pages.PageFault.{PageFault}
 use Rattle.gaz_page.specs.declared.pages.PageFault.TheVariants.{Failed, Damaged, Memory}
 use Rattle.gaz_slots.specs.Bytes.{IsCopied}
 use Rattle.gaz_slots.specs.RecordPage.{count_in, from_in, is_used, is_record_page, slot_record, record_in}
+use Rattle.gaz_slots.specs.Room.{IsTooFull}
 use Rattle.gaz_slots.specs.Overflow.{is_overflow_page, next_in, piece_in}
 use Rattle.gaz_slots.specs.Edited.{Filled, Cleared}
 use Rattle.gaz_page.specs.Chains.{Each, Among}
@@ -30,18 +31,19 @@ Gets pages place buf (Err Memory) = ⊥
 abbrev pub HasUsed : List ℕ → Type 0
 HasUsed page = (slot : ℕ) × (slot < count_in page) × (from_in page slot ≢ 0)
 
--- The record was put into a slot of a record page, and no other page changed.
+-- The record was put into the least free slot of a record page, and no other page changed.
 pub record Stores (number slot : ℕ) (bytes : List ℕ) (old new : PagesView) : Type 0 where
   pub form : is_record_page number (old.page number) ≡ true
   pub filled : Filled number slot bytes (old.page number) (new.page number)
+  pub least : (k : ℕ) → k < slot → IsTrue (is_used (old.page number) k)
   pub others : (n : ℕ) → n ≢ number → new.page n ≡ old.page n
   pub free : new.free ≡ old.free
   pub fresh : new.fresh ≡ old.fresh
 
--- the answer to a record for a page: its slot, none where the page is too full, or a fault
+-- the answer to a record for a page: its slot, none where it doesn't fit the page even packed, or a fault
 abbrev pub StoresIn : ℕ → List ℕ → PagesView → PagesView → Result (Option ℕ) PageFault → Type 0
 StoresIn number bytes old new (Ok (Some slot)) = Stores number slot bytes old new × (slot < 1020)
-StoresIn number bytes old new (Ok None) = SamePages old new × (is_record_page number (old.page number) ≡ true) × HasUsed (old.page number)
+StoresIn number bytes old new (Ok None) = SamePages old new × (is_record_page number (old.page number) ≡ true) × HasUsed (old.page number) × IsTooFull (length bytes) (old.page number)
 StoresIn number bytes old new (Err (Damaged page)) = (page ≡ number) × (is_record_page number (old.page number) ≡ false)
 StoresIn number bytes old new (Err _) = Unit
 

@@ -5,7 +5,8 @@ ghost use Rattle.gaz_slots.specs.RecordPage.{shown_in};
 ghost use Rattle.gaz_heap.specs.Chain.{chain_at, long_enough};
 ghost use Rattle.gaz_heap.specs.Place.{shown_at, page_of};
 ghost use Rattle.gaz_heap.specs.Heap.{Gets, GetsRecord, HasUsed, PutDamage, TakeDamage};
-ghost use Rattle.gaz_heap.specs.Facts.{IsHeap, Puts};
+ghost use Rattle.gaz_heap.specs.Facts.{IsHeap, Puts, PutsThere};
+ghost use Rattle.gaz_slots.specs.Room.{Fits};
 
 use crate::store::{store_in, store_new};
 use gaz_page::{PageFault, Pages};
@@ -117,8 +118,8 @@ pub(crate) fn chain_place(page: u32) -> u64
     u64::from(page) * 65536 + CHAIN
 }
 
-/// Puts a record of at most 4,076 bytes into the page for new records, or into a page that is taken and is then the one for new
-/// records. At most three pages are changed.
+/// Puts a record of at most 4,076 bytes into the page for new records where it fits that page, if need be once it is packed, and else into a page
+/// that is taken and is then the one for new records. At most three pages are changed.
 pub(crate) fn put_short<P: Pages>(
     pages: &mut P,
     current: &mut u32,
@@ -128,6 +129,7 @@ pub(crate) fn put_short<P: Pages>(
     requires short { length bytes.now ≤ 4076 }
     ensures puts { IfOk result (λ place. IsTrue (P.view pages.old).is_told → (free : List ℕ) → IsHeap (P.view pages.old) current.old free → Puts (P.view pages.old) (P.view pages.new) current.old current.new free bytes.now place) }
     ensures page { IfOk result (λ place. page_of place ≡ current.new) }
+    ensures there { IfOk result (λ place. IsTrue (P.view pages.old).is_told → current.old ≢ 0 → Fits (length bytes.now) ((P.view pages.old).page current.old) → PutsThere (P.view pages.old) (P.view pages.new) current.old current.new place) }
     ensures behind { IsTrue (P.view pages.old).is_told → OnOk result ((current.new ≡ current.old) ⊎ ((current.old ≡ 0) ⊎ HasUsed ((P.view pages.old).page current.old))) }
     ensures damaged { IsTrue (P.view pages.old).is_told → PutDamage current.old (P.view pages.old) result }
     ensures left { OnErr result (current.new ≡ current.old) }

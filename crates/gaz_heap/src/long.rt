@@ -1,23 +1,29 @@
 //! Records of all lengths are put, and dropped.
-ghost use Rattle.std.specs.Prelude.{◌≡◌, ◌⊎◌, ◌≤◌, ◌<◌, ◌+◌, ◌*◌, ◌/◌, ◌-◌, ℕ, List, false, length, Some, [], IfOk, OnOk, OnErr, IsTrue};
+ghost use Rattle.std.specs.Prelude.{◌≡◌, ◌≢◌, ◌⊎◌, ◌≤◌, ◌<◌, ◌+◌, ◌*◌, ◌/◌, ◌-◌, ℕ, List, false, length, Some, [], IfOk, OnOk, OnErr, IsTrue};
 ghost use Rattle.gaz_page.specs.Pages.{Costs};
 ghost use Rattle.gaz_heap.specs.Heap.{HasUsed, DropsPiece, DropDamage, GivesAll};
 ghost use Rattle.gaz_heap.specs.Chain.{chain_at, chain_pages};
 ghost use Rattle.gaz_page.specs.Chains.{Each, InUse, IsFreeChain};
-ghost use Rattle.gaz_heap.specs.Facts.{IsHeap, Puts, PutFails, LongFails, Holds, Drops, DropsAny, Given};
-ghost use Rattle.gaz_heap.specs.Place.{record_at};
+ghost use Rattle.gaz_heap.specs.Facts.{IsHeap, Puts, PutsThere, PutFails, PutNames, LongFails, LongNames, Holds, Drops, DropsAny, Given};
+ghost use Rattle.gaz_heap.specs.Place.{record_at, page_of};
+ghost use Rattle.gaz_slots.specs.Room.{Fits};
 
 use crate::heap::{CHAIN, CHAIN_PAGES, SHORT, chain_place, put_short};
 use crate::store::{drop_slot, store_piece};
 use gaz_page::{PageFault, Pages};
 use gaz_slots::{PIECE, next_of};
 
-/// Puts a record of at most 65,535 bytes, and answers its place. At most 36 pages are changed. After an error the pages are to be dropped.
+/// Puts a record of at most 65,535 bytes, and answers its place. A record of at most 4,076 bytes goes into the page for new records where it fits
+/// that page, if need be once it is packed, and only else into a page that is taken and is then the one for new records.
+/// At most 36 pages are changed. After an error the pages are to be dropped.
 pub fn put<P: Pages>(pages: &mut P, current: &mut u32, bytes: &[u8]) -> Result<u64, PageFault>
     requires may_change { (P.view pages.old).is_read_only ≡ false }
     requires short { length bytes.now ≤ 65535 }
     ensures puts { IfOk result (λ place. IsTrue (P.view pages.old).is_told → (free : List ℕ) → IsHeap (P.view pages.old) current.old free → Puts (P.view pages.old) (P.view pages.new) current.old current.new free bytes.now place) }
+    ensures page { length bytes.now ≤ 4076 → IfOk result (λ place. page_of place ≡ current.new) }
+    ensures there { IfOk result (λ place. IsTrue (P.view pages.old).is_told → length bytes.now ≤ 4076 → current.old ≢ 0 → Fits (length bytes.now) ((P.view pages.old).page current.old) → PutsThere (P.view pages.old) (P.view pages.new) current.old current.new place) }
     ensures behind { IsTrue (P.view pages.old).is_told → OnOk result ((current.new ≡ current.old) ⊎ ((current.old ≡ 0) ⊎ HasUsed ((P.view pages.old).page current.old))) }
+    ensures named { IsTrue (P.view pages.old).is_told → PutNames (P.view pages.old) current.old bytes.now result }
     ensures damaged { IsTrue (P.view pages.old).is_told → (free : List ℕ) → IsHeap (P.view pages.old) current.old free → PutFails (P.view pages.old) current.old free result }
     ensures left { OnErr result (current.new ≡ current.old) }
     ensures costs { Costs 17 36 (P.view pages.old) (P.view pages.new) result }
@@ -45,6 +51,7 @@ fn put_long<P: Pages>(pages: &mut P, bytes: &[u8]) -> Result<u64, PageFault>
     requires long { 4076 < length bytes.now }
     requires short { length bytes.now ≤ 65535 }
     ensures puts { IfOk result (λ place. IsTrue (P.view pages.old).is_told → (current : ℕ) (free : List ℕ) → IsHeap (P.view pages.old) current free → Puts (P.view pages.old) (P.view pages.new) current current free bytes.now place) }
+    ensures named { IsTrue (P.view pages.old).is_told → LongNames (P.view pages.old) result }
     ensures damaged { IsTrue (P.view pages.old).is_told → (free : List ℕ) → 1 ≤ (P.view pages.old).fresh → IsFreeChain (P.view pages.old) (P.view pages.old).free free → LongFails (P.view pages.old) free result }
     ensures costs { Costs 17 34 (P.view pages.old) (P.view pages.new) result }
     ensures keeps { P.keeps pages.old pages.new }

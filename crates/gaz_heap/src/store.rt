@@ -1,7 +1,8 @@
 //! Records of record pages, over pages.
 ghost use Rattle.std.specs.Prelude.{◌≡◌, ◌≢◌, ◌≤◌, ◌<◌, ◌+◌, ℕ, true, false, Some, None, length, IfSome, IsNone, IfOk, OnOk, IfErr, IsTrue};
+ghost use Rattle.gaz_slots.specs.Room.{IsTooFull};
 ghost use Rattle.gaz_page.specs.Pages.{PagesView, SamePages, HasReads, Costs, NotDamaged};
-ghost use Rattle.gaz_slots.specs.RecordPage.{is_record_page as is_in_form, slot_record, count_in};
+ghost use Rattle.gaz_slots.specs.RecordPage.{is_record_page as is_in_form, is_used as has_record, slot_record, count_in};
 ghost use Rattle.gaz_slots.specs.Edited.{Filled};
 ghost use Rattle.gaz_heap.specs.Heap.{HasUsed, StoresIn, StoresAlone, StoresPieceIn, DropsSlot};
 
@@ -26,14 +27,16 @@ fn load<P: Pages>(pages: &mut P, number: u32, page: &mut [u8]) -> Result<(), Pag
     }
 }
 
-/// Puts a record into a slot of a page. Where the page has no record at all it is written anew. `None` where it has one and is too
-/// full, and then nothing changes.
+/// Puts a record into the least free slot of a page. Where the page has no record at all it is written anew. `None` where the record doesn't fit
+/// even once the page is packed.
 fn put_in_page(number: u32, page: &mut [u8], bytes: &[u8]) -> Option<usize>
     requires form { is_in_form number page.old ≡ true }
     requires size { length page.old ≡ 4096 }
     requires short { length bytes.now ≤ 4076 }
     ensures filled { IfSome result (λ slot. Filled number slot bytes.now page.old page.new × (slot < 1020)) }
-    ensures full { IsNone result → HasUsed page.old }
+    ensures least { IfSome result (λ slot. (k : ℕ) → k < slot → IsTrue (has_record page.old k)) }
+    ensures used { IsNone result → HasUsed page.old }
+    ensures full { IsNone result → IsTooFull (length bytes.now) page.old }
     ensures size { length page.new ≡ 4096 }
 {
     if used_end(page) == 0 {
@@ -43,7 +46,7 @@ fn put_in_page(number: u32, page: &mut [u8], bytes: &[u8]) -> Option<usize>
     insert(number, page, bytes)
 }
 
-/// Puts a record into a slot of a record page. `None` where the page is too full.
+/// Puts a record into the least free slot of a record page. `None` where it doesn't fit even once the page is packed.
 pub(crate) fn store_in<P: Pages>(
     pages: &mut P,
     number: u32,

@@ -4,6 +4,7 @@ use crate::records::put_made;
 use crate::stopped::{Stopped, check, must, printed};
 use gaz_heap::{drop_record, get};
 use gaz_page::{MemPages, PAGE, PageFault, Pages};
+use gaz_scan::Scan;
 use gaz_tree::Tree;
 use std::alloc::Global;
 use std::io::Print;
@@ -105,6 +106,69 @@ pub fn pages(rt: &impl Print, alloc: Global) -> Result<(), Stopped> {
         "a drop of a chain that goes in a circle",
     )?;
     printed(println!(rt; "damaged records: 11 told by their pages"))
+}
+
+/// A leaf whose first key is above all others.
+fn with_great_key(page: [u8; PAGE]) -> [u8; PAGE] {
+    let mut changed = page;
+    changed[16..48].copy_from_slice(&[255; 32]);
+    changed
+}
+
+/// Whether a call ended, by an answer or by damage.
+fn ends<T: Drop>(given: Result<T, PageFault>) -> bool {
+    match given {
+        Ok(_) => true,
+        Err(PageFault::Damaged(_)) => true,
+        Err(_) => false,
+    }
+}
+
+/// Whether a scan ends after 103 pairs at most.
+fn scan_ends(pages: &mut MemPages, tree: Tree) -> bool {
+    let mut scan = Scan::over(tree, [0; 32], [255; 32]);
+    for _ in 0..104 {
+        match scan.next(pages) {
+            Ok(Some(_pair)) => {}
+            Ok(None) => return true,
+            Err(PageFault::Damaged(_)) => return true,
+            Err(_) => return false,
+        }
+    }
+    false
+}
+
+/// A tree of 103 keys, in the first leaf of which the first key is above all others: each call ends.
+pub fn out_of_order(rt: &impl Print, alloc: Global) -> Result<(), Stopped> {
+    let mut pages = MemPages::new(Vec::new(alloc));
+    let mut tree = must(Tree::empty(&mut pages))?;
+    for id in 0..103 {
+        must(tree.put(&mut pages, &id_key(id), 7))?;
+    }
+    // The page that `empty` took is still the first leaf.
+    let mut leaf = [0; PAGE];
+    match pages.read(1) {
+        Ok(bytes) => leaf.copy_from_slice(bytes),
+        Err(fault) => return Err(Stopped::Pages(fault)),
+    }
+    check(leaf[0] == 1, "the first leaf")?;
+    must(pages.write(1, &with_great_key(leaf)))?;
+    for id in 0..103 {
+        check(
+            ends(tree.get(&mut pages, &id_key(id))),
+            "a get of keys out of order",
+        )?;
+    }
+    check(scan_ends(&mut pages, tree), "a scan of keys out of order")?;
+    check(
+        ends(tree.put(&mut pages, &id_key(1), 8)),
+        "a put among keys out of order",
+    )?;
+    check(
+        ends(tree.remove(&mut pages, &id_key(0))),
+        "a removal among keys out of order",
+    )?;
+    printed(println!(rt; "keys out of order: 103 gets, a scan, a put and a removal end"))
 }
 
 /// Trees of damaged pages.

@@ -1,12 +1,14 @@
 //! A trial and a benchmark of records, a tree and its scan over pages in memory. With the word `trial` it goes through what a test of them shows,
-//! and prints what it found; `records`, `rising`, `random` with a number and a phase do as many steps, for the scripts under bench/. No other crate
-//! stands on it.
+//! and prints what it found; `records`, `rising`, `random`, `map_rising`, `map_random` with a number and a phase do as many steps, for the scripts under
+//! bench/. No other crate stands on it.
 #![tactic(auto)]
 
 mod damage;
 mod failing;
+mod heights;
 mod keys;
 mod pattern;
+mod ranges;
 mod records;
 mod steps;
 mod stopped;
@@ -38,8 +40,11 @@ fn trial(rt: &HostRuntime) -> Result<(), Stopped> {
     damage::pages(rt, rt.alloc())?;
     keys::beside_a_map(rt, rt.alloc())?;
     keys::in_order(rt, rt.alloc())?;
+    heights::to_height_4(rt, rt.alloc())?;
+    ranges::parts(rt, rt.alloc())?;
     failing::each_call_of_a_tree(rt, rt.alloc())?;
-    damage::trees(rt, rt.alloc())
+    damage::trees(rt, rt.alloc())?;
+    damage::out_of_order(rt, rt.alloc())
 }
 
 fn run(rt: &HostRuntime, words: &[String]) -> Result<(), Stopped> {
@@ -59,6 +64,8 @@ fn run(rt: &HostRuntime, words: &[String]) -> Result<(), Stopped> {
                 "records" => steps::records(rt, rt.alloc(), many, phase),
                 "rising" => steps::keys(rt, rt.alloc(), many, phase, false),
                 "random" => steps::keys(rt, rt.alloc(), many, phase, true),
+                "map_rising" => steps::map(rt, rt.alloc(), many, phase, false),
+                "map_random" => steps::map(rt, rt.alloc(), many, phase, true),
                 _ => Err(Stopped::Words),
             }
         }

@@ -6,6 +6,7 @@ use gaz_page::MemPages;
 use gaz_scan::Scan;
 use gaz_tree::Tree;
 use std::alloc::Global;
+use std::collections::BTreeMap;
 use std::io::Print;
 
 /// Puts so many records of 60 to 179 bytes (phase 1), gets each (2), and drops each (3). Prints the pages and the bytes in them.
@@ -78,4 +79,36 @@ pub fn keys(
     let taken = pages.fresh().wrapping_sub(1);
     let height = tree.height;
     printed(println!(rt; "{taken} pages, height {height}"))
+}
+
+/// The same with std's map in place of the tree.
+pub fn map(
+    rt: &impl Print,
+    alloc: Global,
+    many: u32,
+    phase: u32,
+    is_random: bool,
+) -> Result<(), Stopped> {
+    let mut map: BTreeMap<[u8; 32], u64> = BTreeMap::new(alloc);
+    let mut x: u64 = 1;
+    for n in 0..many {
+        x = next(x);
+        let id = if is_random { x as u32 } else { n };
+        had(map.insert(id_key(id), n as u64))?;
+    }
+    x = 1;
+    if phase > 1 {
+        for n in 0..many {
+            x = next(x);
+            let id = if is_random { x as u32 } else { n };
+            check(map.get(&id_key(id)).is_some(), "a key that was put")?;
+        }
+    }
+    let mut sum: u64 = 0;
+    if phase > 2 {
+        for (_key, value) in map.iter() {
+            sum = sum.wrapping_add(*value);
+        }
+    }
+    printed(println!(rt; "{many} keys, sum {sum}"))
 }

@@ -7,22 +7,30 @@ ghost use Rattle.gaz_num.specs.declared.words.Kind.TheVariants.{Row as RowKind};
 ghost use Rattle.gaz_row.specs.Row.{population_of};
 
 use crate::check::{LATITUDES, LONGITUDES};
-use crate::columns::Columns;
-use gaz_num::{read_degrees, read_i64, read_id};
+use gaz_num::{field, read_degrees, read_i64, read_id};
 use std::marker::Model;
 
-/// A line that the check of a row accepts, seen as the line.
+/// The column of a number from 1, or nothing where the line has fewer.
+fn column_of(line: &[u8], number: usize) -> &[u8]
+    requires { 1 ≤ number }
+    ensures { result.now ≡ column number line.now }
+{
+    field(line, number - 1).unwrap_or(&[])
+}
+
+/// A line that the check of a row accepts, seen as the line. A column is looked for when it is asked for: most of the rows that a
+/// search goes over fail its first test.
 #[derive(Drop)]
 pub struct Row<'a> {
-    columns: Columns<'a>,
+    line: &'a [u8],
 }
 
 impl<'a> Model for Row<'a> {
     ghost Value = { List ℕ };
 
-    ghost view = { λ row. row.columns.line.now };
+    ghost view = { λ row. row.line.now };
 
-    ghost invariant = { λ row. reason_against RowKind row.columns.line.now ≡ None };
+    ghost invariant = { λ row. reason_against RowKind row.line.now ≡ None };
 }
 
 impl<'a> Row<'a> {
@@ -31,32 +39,29 @@ impl<'a> Row<'a> {
         requires { reason_against RowKind line.now ≡ None }
         ensures { result ≡ line.now }
     {
-        Row {
-            columns: Columns::of(line).unwrap(),
-        }
+        Row { line }
     }
 
     /// The whole line.
     pub fn line(&self) -> &'a [u8]
         ensures { result.now ≡ self.now }
     {
-        self.columns.line()
+        self.line
     }
 
     /// The geonameid, column 1.
     pub fn id(&self) -> u32
         ensures { id_in (column 1 self.now) ≡ Some result }
     {
-        read_id(self.columns.text(1)).unwrap()
+        read_id(column_of(self.line, 1)).unwrap()
     }
 
-    /// The text of the column of a number from 1 to 19.
+    /// The text of the column of a number from 1.
     fn text(&self, number: usize) -> &'a str
-        requires low { 1 ≤ number }
-        requires high { number ≤ 19 }
+        requires { 1 ≤ number }
         ensures { result.now ≡ column number self.now }
     {
-        str::from_utf8(self.columns.text(number)).unwrap()
+        str::from_utf8(column_of(self.line, number)).unwrap()
     }
 
     /// The name, column 2.
@@ -77,14 +82,14 @@ impl<'a> Row<'a> {
     pub fn latitude(&self) -> i64
         ensures { degrees_in 90 (column 5 self.now) ≡ Some result }
     {
-        read_degrees(self.columns.text(5), LATITUDES).unwrap()
+        read_degrees(column_of(self.line, 5), LATITUDES).unwrap()
     }
 
     /// The longitude, column 6, in units of 10^-12 degree.
     pub fn longitude(&self) -> i64
         ensures { degrees_in 180 (column 6 self.now) ≡ Some result }
     {
-        read_degrees(self.columns.text(6), LONGITUDES).unwrap()
+        read_degrees(column_of(self.line, 6), LONGITUDES).unwrap()
     }
 
     /// The feature class, column 7.
@@ -121,6 +126,6 @@ impl<'a> Row<'a> {
     pub fn population(&self) -> i64
         ensures { result ≡ population_of self.now }
     {
-        read_i64(self.columns.text(15)).unwrap_or(0)
+        read_i64(column_of(self.line, 15)).unwrap_or(0)
     }
 }

@@ -10,7 +10,7 @@ ghost use Rattle.gaz_scan.specs.Scan.{Comes, Gives, GivesFirst, Fills, tree_of};
 use crate::after::after;
 use crate::copied::Copied;
 use crate::seek::seek_below;
-use gaz_leaf::{Key, Kind, clear, count_of, key_at, value_at};
+use gaz_leaf::{Key, Kind, clear, count_of, key_at, key_bytes, value_at};
 use gaz_page::{PageFault, Pages};
 use gaz_tree::Tree;
 
@@ -22,18 +22,6 @@ pub struct Scan {
     /// Where the keys behind the copied leaf begin, or None where no more come.
     next: Option<Key>,
     high: Key,
-}
-
-/// The key of an entry of a leaf, in bytes.
-fn key_bytes(page: &[u8], n: usize) -> [u8; 32]
-    requires shaped { IsShaped Kind.Leaf page.now }
-    requires within { n < count_in page.now }
-    ensures { key_of result ≡ key_of (entry_at Kind.Leaf n page.now) }
-{
-    let from = 16 + 40 * n;
-    let mut key = [0; 32];
-    key.copy_from_slice(&page[from..from + 32]);
-    key
 }
 
 /// The next entry of the copied leaf, where there is one with a key up to this one.
@@ -48,7 +36,7 @@ fn give(copied: &mut Copied, high: Key) -> Option<([u8; 32], u64)>
         return None;
     }
     let given = (
-        key_bytes(&copied.bytes, copied.at),
+        key_bytes(&copied.bytes, Kind::Leaf, copied.at),
         value_at(&copied.bytes, Kind::Leaf, copied.at),
     );
     copied.at += 1;

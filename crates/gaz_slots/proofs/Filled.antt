@@ -11,6 +11,7 @@ opened_same number slot old form free below = record {
   was_free = free_record old slot free;
   records = λ k. refl;
   count = omega (arith, below);
+  mark = refl;
 }
 
 pub opened_new : (number slot : ℕ) (old grown : List ℕ) → slot ≡ count_in old → Added number old grown → Opened number slot old grown
@@ -20,6 +21,7 @@ opened_new number slot old grown is a = record {
   was_free = past_record old slot (omega (arith, is));
   records = a.records;
   count = omega (arith, a.count, is);
+  mark = a.mark;
 }
 
 pub filled_opened : (number slot : ℕ) (bytes old opened new : List ℕ) → Opened number slot old opened → Placed number slot bytes opened new → FilledExactly number slot bytes old new
@@ -31,4 +33,5 @@ filled_opened number slot bytes old opened new o p = record {
     others = λ k differs. p.others k differs ∙ o.records k;
   };
   count = p.count ∙ o.count;
+  mark = p.mark ∙ o.mark;
 }

@@ -6,6 +6,7 @@ pub mod Emptied
 pub mod Added
 pub mod Empty
 pub mod Filled
+pub mod RoomLeft
 pub mod Packed
 pub mod Slots
 pub mod Recorded

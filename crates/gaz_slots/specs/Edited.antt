@@ -2,6 +2,7 @@
 use Rattle.std.specs.Prelude.{◌≡◌, ◌≢◌, ◌<◌, ◌+◌, max, ℕ, true, List, ◌∷◌, [], ◌++◌, length, replicate, Some, None}
 use Rattle.std.specs.Int.{w32, to_be_bytes}
 use Rattle.gaz_slots.specs.RecordPage.{count_in, mark_in, from_in, is_record_page, slot_record}
+use Rattle.gaz_slots.specs.Room.{held_below, last_used}
 
 -- The slot has these bytes as its record, the other slots have what they had, and the page is in form.
 pub record Placed (number slot : ℕ) (bytes old new : List ℕ) : Type 0 where
@@ -42,6 +43,7 @@ pub record Opened (number slot : ℕ) (old new : List ℕ) : Type 0 where
   pub was_free : slot_record old slot ≡ None
   pub records : (k : ℕ) → slot_record new k ≡ slot_record old k
   pub count : count_in new ≡ max (count_in old) (slot + 1)
+  pub mark : mark_in new ≡ mark_in old
 
 -- A free slot, or a new one behind the others, has these bytes as its record. The others have what they had, and the page is in form.
 pub record Filled (number slot : ℕ) (bytes old new : List ℕ) : Type 0 where
@@ -50,18 +52,22 @@ pub record Filled (number slot : ℕ) (bytes old new : List ℕ) : Type 0 where
   pub was_free : slot_record old slot ≡ None
   pub others : (k : ℕ) → k ≢ slot → slot_record new k ≡ slot_record old k
 
--- the same, with the number of slots
+-- the same, with the number of slots and where the records begin
 pub record FilledExactly (number slot : ℕ) (bytes old new : List ℕ) : Type 0 where
   pub filled : Filled number slot bytes old new
   pub count : count_in new ≡ max (count_in old) (slot + 1)
+  pub mark : mark_in new + length bytes ≡ mark_in old
 
--- The same records stand in the same slots, and the page is in form.
+-- The same records stand in the same slots, one behind the other, there are no slots behind the last used one, and the page is in form.
 pub record Packs (number : ℕ) (old new : List ℕ) : Type 0 where
   pub form : is_record_page number new ≡ true
+  pub count : count_in new ≡ last_used old
+  pub mark : mark_in new + held_below (count_in old) old ≡ 4096
   pub records : (k : ℕ) → slot_record new k ≡ slot_record old k
 
--- the first slots have the records that they have in another page, and there are no more slots
+-- the first slots have the records that they have in another page, one behind the other, and there are no more slots
 pub record PacksFirst (number slots : ℕ) (old new : List ℕ) : Type 0 where
   pub form : is_record_page number new ≡ true
   pub count : count_in new ≡ slots
+  pub mark : mark_in new + held_below slots old ≡ 4096
   pub records : (k : ℕ) → k < slots → slot_record new k ≡ slot_record old k

@@ -1,8 +1,8 @@
 //! Records within one page.
-//! A record page has a list of slots from its front and records from its end towards them; an overflow page has one piece of a record
-//! that is too long for a record page. Each move is over the bytes of one page, in place, and keeps the page in form: a slot is filled,
-//! made free or added, a page is packed, a piece is written. The least free slot is filled, and a page is packed where the record
-//! wouldn't fit else. Reading is safe on any bytes; nothing takes memory.
+//! A record page has a list of slots from its front and records from its end towards them; an overflow page has one piece of a record that is too
+//! long for a record page. Each move is over the bytes of one page, in place, and keeps the page in form, with all other records as they were.
+//! A record goes into the least free slot; the page is packed where it wouldn't fit else, and it is refused only where it doesn't fit even then.
+//! Reading is safe on any bytes, and gives what the page shows in a slot. Nothing takes memory.
 #![tactic(auto)]
 
 mod bytes;

@@ -1,7 +1,8 @@
 //! A record page: a list of slots from its front, and records from its end towards them.
-ghost use Rattle.std.specs.Prelude.{◌≡◌, ◌≤◌, ◌<◌, ◌+◌, ◌*◌, ◌-◌, ℕ, ◌≢◌, ◌⊎◌, true, false, None, Some, length, max, take, IfSome, IsNone};
+ghost use Rattle.std.specs.Prelude.{◌≡◌, ◌≤◌, ◌<◌, ◌+◌, ◌*◌, ◌-◌, ℕ, ◌≢◌, ◌⊎◌, true, false, None, Some, length, max, take, IfSome, IsNone, IsTrue};
 ghost use Rattle.gaz_slots.specs.Bytes.{IsCopied};
 ghost use Rattle.gaz_slots.specs.Edited.{Placed, Cleared, Added, Opened, Filled, FilledExactly, Packs, PacksFirst, empty_head, empty_page};
+ghost use Rattle.gaz_slots.specs.Room.{held_by, held_below, used_below, last_used, IsTooFull};
 ghost use Rattle.gaz_slots.specs.RecordPage.{all_below, is_used as has_record, slot_record, shown_in, count_in, mark_in, from_in, size_in, has_record_head, has_mark, is_within as stands_within, is_apart as stand_apart, is_record_page as is_in_form};
 
 use crate::bytes::{put, put_short};
@@ -214,12 +215,13 @@ pub fn start_page(number: u32, page: &mut [u8])
     page[..HEADER].copy_from_slice(&empty_start(number));
 }
 
-/// A free slot, or the number of slots where none is free.
+/// The least free slot, or the number of slots where none is free.
 fn find_free(page: &[u8]) -> usize
     requires size { length page.now ≡ 4096 }
     requires slots { 16 + 4 * count_in page.now ≤ 4096 }
     ensures within { result ≤ count_in page.now }
     ensures free { result < count_in page.now → from_in page.now result ≡ 0 }
+    ensures least { (k : ℕ) → k < result → from_in page.now k ≢ 0 }
 {
     let count = count(page);
     for slot in 0..count {
@@ -237,6 +239,7 @@ pub fn used_end(page: &[u8]) -> usize
     ensures within { result ≤ count_in page.now }
     ensures free { (k : ℕ) → result ≤ k → k < count_in page.now → from_in page.now k ≡ 0 }
     ensures used { 0 < result → from_in page.now (result - 1) ≢ 0 }
+    ensures last { result ≡ last_used page.now }
 {
     let mut end = 0;
     for slot in 0..count(page) {
@@ -274,6 +277,7 @@ fn put_in_slot(page: &mut [u8], slot: usize, bytes: &[u8]) -> bool
     ensures filled { (number : ℕ) → is_in_form number page.old ≡ true → (slot < count_in page.old → from_in page.old slot ≡ 0) → result ≡ true → FilledExactly number slot bytes.now page.old page.new }
     ensures full { result ≡ false → page.new ≡ page.old }
     ensures room { 16 + 4 * max (count_in page.old) (slot + 1) + length bytes.now ≤ mark_in page.old → result ≡ true }
+    ensures no_room { result ≡ false → mark_in page.old < 16 + 4 * max (count_in page.old) (slot + 1) + length bytes.now }
     ensures size { length page.new ≡ 4096 }
 {
     let slots = count(page).max(slot + 1);
@@ -295,6 +299,7 @@ fn pack_slot(page: &[u8], slot: usize, out: &mut [u8]) -> bool
     requires slots { 16 + 4 * count_in out.old ≤ mark_in out.old }
     requires mark { mark_in out.old ≤ 4096 }
     ensures packed { result ≡ true → (number : ℕ) → PacksFirst number slot page.now out.old → PacksFirst number (slot + 1) page.now out.new }
+    ensures full { result ≡ false → (number : ℕ) → is_in_form number page.now ≡ true → mark_in out.old < 20 + 4 * slot + held_by page.now slot }
     ensures size { length out.new ≡ 4096 }
 {
     let from = from_of(page, slot);
@@ -314,6 +319,7 @@ fn put_none(page: &mut [u8]) -> bool
     requires slots { 16 + 4 * count_in page.old ≤ mark_in page.old }
     requires mark { mark_in page.old ≤ 4096 }
     ensures added { result ≡ true → (number : ℕ) → is_in_form number page.old ≡ true → Added number page.old page.new }
+    ensures full { result ≡ false → mark_in page.old < 20 + 4 * count_in page.old }
     ensures size { length page.new ≡ 4096 }
 {
     if HEADER + 4 * (count(page) + 1) > mark(page) {
@@ -329,6 +335,7 @@ fn pack(number: u32, page: &[u8], out: &mut [u8]) -> bool
     requires slots { 16 + 4 * count_in page.now ≤ 4096 }
     requires out { length out.old ≡ 4096 }
     ensures packed { result ≡ true → Packs number page.now out.new }
+    ensures full { result ≡ false → is_in_form number page.now ≡ true → 4096 < 16 + 4 * last_used page.now + held_below (count_in page.now) page.now }
     ensures size { length out.new ≡ 4096 }
 {
     start_page(number, out);
@@ -340,13 +347,16 @@ fn pack(number: u32, page: &[u8], out: &mut [u8]) -> bool
     true
 }
 
-/// Puts a record into a slot of the page, packed where it wouldn't fit else. Answers the slot, or `None` where the page is too full,
-/// and then changes nothing.
+/// Puts a record into the least free slot of the page, or into a new one where none is free. Where it wouldn't fit else the page is packed in
+/// place. Answers the slot, or `None` where the record doesn't fit even then, and then changes nothing.
 pub fn insert(number: u32, page: &mut [u8], bytes: &[u8]) -> Option<usize>
     requires form { is_in_form number page.old ≡ true }
     requires size { length page.old ≡ 4096 }
     requires short { length bytes.now ≤ 4076 }
     ensures filled { IfSome result (λ slot. Filled number slot bytes.now page.old page.new) }
+    ensures least { IfSome result (λ slot. (k : ℕ) → k < slot → IsTrue (has_record page.old k)) }
+    ensures full { IsNone result → IsTooFull (length bytes.now) page.old }
+    ensures same { IsNone result → page.new ≡ page.old }
     ensures slot { IfSome result (λ slot. slot < 1020) }
     ensures size { length page.new ≡ 4096 }
 {
@@ -363,6 +373,9 @@ fn insert_packed(number: u32, page: &mut [u8], bytes: &[u8]) -> Option<usize>
     requires size { length page.old ≡ 4096 }
     requires short { length bytes.now ≤ 4076 }
     ensures filled { IfSome result (λ slot. Filled number slot bytes.now page.old page.new) }
+    ensures least { IfSome result (λ slot. (k : ℕ) → k < slot → IsTrue (has_record page.old k)) }
+    ensures full { IsNone result → IsTooFull (length bytes.now) page.old }
+    ensures same { IsNone result → page.new ≡ page.old }
     ensures slot { IfSome result (λ slot. slot < 1020) }
     ensures size { length page.new ≡ 4096 }
 {

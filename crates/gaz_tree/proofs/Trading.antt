@@ -1,16 +1,20 @@
 -- Pages that are taken and written: what becomes of the pages of a tree and the free ones together.
 use Rattle.std.proofs.Common.{◌≡◌, ◌≢◌, ◌≤◌, ◌<◌, ◌+◌, ◌⊎◌, ℕ, List, [], ◌∷◌, Some, refl, sym, ◌∙◌, ap, arith, subst, inl, inr}
-use Rattle.std.specs.Prelude.{Bool, if◌then◌else◌}
+use Rattle.std.specs.Prelude.{Bool, ◌==◌, if◌then◌else◌, Result, Ok, Err}
 use Rattle.std.proofs.lemmas.Bool.{eq-eqb, ne_eqb, cases_lt}
 use Rattle.gaz_page.specs.Free.{free_link}
-use Rattle.gaz_page.specs.Pages.{PagesView, SamePages, Takes, with_page}
+use Rattle.gaz_page.specs.declared.pages.PageFault.{PageFault}
+use Rattle.gaz_page.specs.declared.pages.PageFault.TheVariants.{Failed, Damaged, Memory}
+use Rattle.gaz_num.specs.Numbers.{some_if}
+use Rattle.std.specs.Option.{is_none}
+use Rattle.gaz_page.specs.Pages.{PagesView, SamePages, Takes, with_page, damage}
 use Rattle.gaz_page.proofs.PageMaps.{with_other}
 use Rattle.gaz_leaf.specs.declared.kind.Kind.{Kind}
 use Rattle.gaz_leaf.specs.Node.{IsForm}
 use Rattle.gaz_page.specs.Chains.{Among}
-use Rattle.gaz_tree.specs.Put.{first_of, IsChain, HasChain, IsFree, Trades}
+use Rattle.gaz_tree.specs.Put.{first_of, IsChain, HasChain, IsFree, Trades, TakesFew, IsSpent, IsTakeDamage}
 use Rattle.gaz_tree.proofs.Changed.{form_not_free, takes_change}
-use Rattle.gaz_tree.proofs.Chains.{In, chain_stays, same_link, once, on_chain, taken}
+use Rattle.gaz_tree.proofs.Chains.{In, chain_stays, same_link, once, on_chain, taken, left_one}
 
 -- from a page on there is one chain
 same_list : (pages : ℕ → List ℕ) (fresh : ℕ) (ns ms : List ℕ) → IsChain pages fresh ns → IsChain pages fresh ms → first_of ns ≡ first_of ms → ns ≡ ms
@@ -46,6 +50,30 @@ chain_same old mid same c = record {
   first = c.first ∙ sym same.free;
   chain = subst (λ (m : ℕ → List ℕ). IsChain m mid.fresh c.frees) (sym same.pages) (subst (λ (f : ℕ). IsChain old.page f c.frees) (sym same.fresh) c.chain);
 }
+
+-- pages that are the same, and then calls that took some
+pub few_over : (most : ℕ) (old mid new : PagesView) → SamePages old mid → TakesFew most mid new → TakesFew most old new
+unfolding chain_same
+few_over most old mid new same few before after = let e = same.fresh in let x = few (chain_same old mid same before) after in omega arith
+
+pub few_same : (most : ℕ) (old new : PagesView) → SamePages old new → TakesFew most old new
+unfolding chain_same
+few_same most old new same before after = let e = same.fresh in let x = left_one new (chain_same old new same before) after in omega arith
+
+pub spent_over : (most : ℕ) (old mid : PagesView) (n : ℕ) → SamePages old mid → IsSpent mid most n → IsSpent old most n
+unfolding chain_same
+spent_over most old mid n same s = record { none = s.none; few = λ before. (let e = same.fresh in let x = s.few (chain_same old mid same before) in omega arith) }
+
+damage_over : (old mid : PagesView) → SamePages old mid → damage mid ≡ damage old
+unfolding damage
+damage_over old mid same i =
+    if same.free i == 0 then some_if (same.fresh i == 4294967295) 0 else some_if (is_none (free_link (same.free i) (same.pages i (same.free i)))) (same.free i)
+
+pub take_damage_over : {T : Type 0} (old mid : PagesView) (result : Result T PageFault) → SamePages old mid → IsTakeDamage mid result → IsTakeDamage old result
+take_damage_over old mid (Ok given) same d = tt
+take_damage_over old mid (Err Failed) same d = tt
+take_damage_over old mid (Err Memory) same d = tt
+take_damage_over old mid (Err (Damaged n)) same d = sym (damage_over old mid same) ∙ d
 
 pub trade_same : (S : ℕ → Type 0) (a b : PagesView) → SamePages a b → Trades S S a b
 unfolding chain_same

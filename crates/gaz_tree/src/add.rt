@@ -4,10 +4,11 @@ ghost use Rattle.gaz_page.specs.Pages.{HasPageCause, Counts};
 ghost use Rattle.gaz_leaf.specs.Node.{Pair, key_of, pairs_in, count_of as count_in, capacity, IsForm, IsShaped, IsFitting};
 ghost use Rattle.gaz_tree.specs.Tree.{from_low};
 ghost use Rattle.gaz_page.specs.Pages.{HasReads, NoMemory};
-ghost use Rattle.gaz_tree.specs.Put.{inserted, SplitEnds, Adds};
+ghost use Rattle.gaz_tree.specs.Calls.{Unfit};
+ghost use Rattle.gaz_tree.specs.Put.{inserted, SplitEnds, Adds, AddNames, Rises, IfKept, IsTakeDamage};
 
 use crate::grown::{Grown, Half};
-use gaz_leaf::{Kind, count_of, first_key, insert, is_shaped, spread, zero_first};
+use gaz_leaf::{Kind, count_of, first_key, insert, is_page, spread, zero_first};
 use gaz_page::{PageFault, Pages};
 
 /// Copies a page of this kind, and answers its number of entries.
@@ -21,12 +22,13 @@ pub fn load<P: Pages>(
     ensures shaped { IfOk result (λ count. IsShaped kind buf.new) }
     ensures bytes { OnOk result (IsTrue (P.view pages.old).is_told → buf.new ≡ (P.view pages.old).page page) }
     ensures fault { IfErr result NoMemory }
+    ensures unfit { IfErr result (Unfit kind page ((P.view pages.old).page page) (P.view pages.old).is_told) }
     ensures reads { HasReads 1 (P.view pages.old) (P.view pages.new) result }
     ensures keeps { P.keeps pages.old pages.new }
 {
     match pages.read(page) {
         Ok(bytes) => {
-            if !is_shaped(bytes, kind) {
+            if !is_page(bytes, kind, page) {
                 return Err(PageFault::Damaged(page));
             }
             buf.copy_from_slice(bytes);
@@ -70,6 +72,9 @@ fn split<P: Pages>(
     requires fits { IsFitting kind value }
     ensures adds { IsTrue (P.view pages.old).is_told → IsForm kind page left.old
         → Adds kind page (inserted n (record { key = key_of key.now; value = value }) (pairs_in kind left.old)) (P.view pages.old) (P.view pages.new) result }
+    ensures rises { OnOk result (IsTrue (P.view pages.old).is_told → Rises 1 (P.view pages.old) (P.view pages.new)) }
+    ensures damaged { IsTrue (P.view pages.old).is_told → IsTakeDamage (P.view pages.old) result }
+    ensures split { IfKept result ⊥ }
     ensures counts { Counts 1 3 (P.view pages.old) (P.view pages.new) }
     ensures cause { HasPageCause (P.view pages.old) (P.view pages.new) result }
     ensures keeps { P.keeps pages.old pages.new }
@@ -107,6 +112,11 @@ pub fn add_entry<P: Pages>(
     requires fits { IsFitting kind value }
     ensures adds { IsTrue (P.view pages.old).is_told → IsForm kind page ((P.view pages.old).page page)
         → Adds kind page (inserted n (record { key = key_of key.now; value = value }) (pairs_in kind ((P.view pages.old).page page))) (P.view pages.old) (P.view pages.new) result }
+    ensures damaged { IsTrue (P.view pages.old).is_told → IsForm kind page ((P.view pages.old).page page) → n ≤ count_in ((P.view pages.old).page page)
+        → IsTakeDamage (P.view pages.old) result }
+    ensures rises { OnOk result (IsTrue (P.view pages.old).is_told → Rises 1 (P.view pages.old) (P.view pages.new)) }
+    ensures names { IsTrue (P.view pages.old).is_told → AddNames kind page n (P.view pages.old) (P.view pages.new) result }
+    ensures light { IfKept result ((P.view pages.new).reads ≤ (P.view pages.old).reads + 1) }
     ensures counts { Counts 2 3 (P.view pages.old) (P.view pages.new) }
     ensures cause { HasPageCause (P.view pages.old) (P.view pages.new) result }
     ensures keeps { P.keeps pages.old pages.new }

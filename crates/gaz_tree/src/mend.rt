@@ -1,9 +1,9 @@
 //! Two neighbours of a level, of which one has an entry too few.
 ghost use Rattle.std.specs.Prelude.{◌≡◌, ◌≤◌, ◌<◌, ◌+◌, ◌⊎◌, ◌^◌, ℕ, false, List, ◌++◌, length, IsTrue, IfOk, IfErr, OnOk};
-ghost use Rattle.gaz_page.specs.Pages.{HasPageCause, Counts};
+ghost use Rattle.gaz_page.specs.Pages.{HasPageCause, Counts, NotDamaged};
 ghost use Rattle.gaz_leaf.specs.Node.{key_of, entry_at, capacity, pairs_in, count_of as count_in, IsShaped, IsForm};
 ghost use Rattle.gaz_tree.specs.Tree.{least as least_in};
-ghost use Rattle.gaz_tree.specs.Remove.{child_in, key_in_page, raised, both_in, Mends, IsMendedAt, IsMended};
+ghost use Rattle.gaz_tree.specs.Remove.{child_in, key_in_page, raised, both_in, Mends, IsShared, IsMendedAt, IsMended, NamesChild, NamesPageOrChild};
 
 use crate::add::{load, part};
 use crate::shrunk::Shrunk;
@@ -50,6 +50,7 @@ fn join_pages<P: Pages>(
     ensures mends { IsTrue (P.view pages.old).is_told → parent.old ≡ (P.view pages.old).page page → left.old ≡ (P.view pages.old).page (child_in parent.old i)
         → pairs_in kind left.old ++ pairs_in kind right.now ≡ both_in kind (P.view pages.old).page parent.old i
         → Mends kind page i (P.view pages.old) (P.view pages.new) result }
+    ensures fault { IfErr result NotDamaged }
     ensures counts { Counts 0 3 (P.view pages.old) (P.view pages.new) }
     ensures cause { HasPageCause (P.view pages.old) (P.view pages.new) result }
     ensures keeps { P.keeps pages.old pages.new }
@@ -76,7 +77,7 @@ fn join_pages<P: Pages>(
 }
 
 /// Shares the entries of two neighbours, and puts the new key between them into the page above.
-fn share_pages<P: Pages>(
+pub fn share_pages<P: Pages>(
     pages: &mut P,
     kind: Kind,
     page: u32,
@@ -84,17 +85,18 @@ fn share_pages<P: Pages>(
     i: usize,
     left: &mut [u8; 4096],
     right: &mut [u8; 4096],
-) -> Result<Shrunk, PageFault>
+) -> Result<(), PageFault>
     requires may_change { (P.view pages.old).is_read_only ≡ false }
     requires left_shaped { IsShaped kind left.old }
     requires right_shaped { IsShaped kind right.old }
     requires parent_shaped { IsShaped Kind.Inner parent.old }
     requires within { i + 1 < count_in parent.old }
     requires many { capacity kind < count_in left.old + count_in right.old }
-    ensures mends { IsTrue (P.view pages.old).is_told → parent.old ≡ (P.view pages.old).page page → left.old ≡ (P.view pages.old).page (child_in parent.old i)
+    ensures shares { OnOk result (IsTrue (P.view pages.old).is_told → parent.old ≡ (P.view pages.old).page page → left.old ≡ (P.view pages.old).page (child_in parent.old i)
         → ((n : ℕ) → IsForm kind n ((P.view pages.old).page (child_in parent.old (i + 1))) → IsForm kind n right.old)
         → pairs_in kind left.old ++ pairs_in kind right.old ≡ both_in kind (P.view pages.old).page parent.old i
-        → Mends kind page i (P.view pages.old) (P.view pages.new) result }
+        → IsShared kind page i (P.view pages.old) (P.view pages.new)) }
+    ensures fault { IfErr result NotDamaged }
     ensures counts { Counts 0 3 (P.view pages.old) (P.view pages.new) }
     ensures cause { HasPageCause (P.view pages.old) (P.view pages.new) result }
     ensures keeps { P.keeps pages.old pages.new }
@@ -112,7 +114,7 @@ fn share_pages<P: Pages>(
     }
     replace(parent, Kind::Inner, i + 1, &key, right_page as u64);
     match pages.write(page, parent) {
-        Ok(()) => Ok(Shrunk::Fine),
+        Ok(()) => Ok(()),
         Err(fault) => Err(fault),
     }
 }
@@ -148,6 +150,7 @@ fn mend_two<P: Pages>(
     requires within { i + 1 < count_in parent.old }
     ensures mends { OnOk result (IsTrue (P.view pages.old).is_told → parent.old ≡ (P.view pages.old).page page
         → IsMendedAt kind page i (P.view pages.old) (P.view pages.new) result) }
+    ensures names { IsTrue (P.view pages.old).is_told → NamesChild kind (pairs_in Kind.Inner parent.old) (P.view pages.old).page (P.view pages.new).page result }
     ensures counts { Counts 2 3 (P.view pages.old) (P.view pages.new) }
     ensures cause { HasPageCause (P.view pages.old) (P.view pages.new) result }
     ensures keeps { P.keeps pages.old pages.new }
@@ -169,7 +172,10 @@ fn mend_two<P: Pages>(
     if first + second <= kind.capacity() {
         return join_pages(pages, kind, page, parent, i, &mut left, &right);
     }
-    share_pages(pages, kind, page, parent, i, &mut left, &mut right)
+    match share_pages(pages, kind, page, parent, i, &mut left, &mut right) {
+        Ok(()) => Ok(Shrunk::Fine),
+        Err(fault) => Err(fault),
+    }
 }
 
 /// The left one of two neighbours, of which one stands at this place.
@@ -191,6 +197,7 @@ pub fn mend<P: Pages>(
 ) -> Result<Shrunk, PageFault>
     requires may_change { (P.view pages.old).is_read_only ≡ false }
     ensures mended { OnOk result (IsTrue (P.view pages.old).is_told → IsMended kind page place (P.view pages.old) (P.view pages.new) result) }
+    ensures names { IsTrue (P.view pages.old).is_told → NamesPageOrChild kind page place (P.view pages.old).page (P.view pages.new).page result }
     ensures counts { Counts 3 3 (P.view pages.old) (P.view pages.new) }
     ensures cause { HasPageCause (P.view pages.old) (P.view pages.new) result }
     ensures keeps { P.keeps pages.old pages.new }

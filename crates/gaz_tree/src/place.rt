@@ -5,11 +5,12 @@ ghost use Rattle.gaz_page.specs.Pages.{HasPageCause, Counts};
 ghost use Rattle.gaz_leaf.specs.Node.{Pair, key_in, key_of, pairs_in, count_of as count_in, IsForm};
 ghost use Rattle.gaz_tree.specs.Pairs.{Within};
 ghost use Rattle.gaz_tree.specs.Tree.{leaf_of};
-ghost use Rattle.gaz_page.specs.Pages.{HasReads, NoMemory};
-ghost use Rattle.gaz_tree.specs.Put.{Places, IsAdded};
+ghost use Rattle.gaz_page.specs.Pages.{HasReads, NoMemory, NotDamaged};
+ghost use Rattle.gaz_tree.specs.Calls.{Names, NamesSince};
+ghost use Rattle.gaz_tree.specs.Put.{Places, IsPlaceOf, IsAdded, Rises};
 
 use crate::add::load;
-use gaz_leaf::{Key, Kind, first_above, is_shaped, key_at, replace, value_at};
+use gaz_leaf::{Key, Kind, first_above, is_page, key_at, replace, value_at};
 use gaz_page::{PageFault, Pages};
 
 /// Where a pair goes among the pairs of a leaf.
@@ -26,11 +27,13 @@ pub enum Place {
 /// The place in a leaf with these bytes.
 fn place_in(bytes: &[u8], page: u32, key: Key, value: u64) -> Result<Place, PageFault>
     requires { length bytes.now ≡ 4096 }
-    ensures place { (number low high : ℕ) → IsForm Kind.Leaf number bytes.now → Within low high (pairs_in Kind.Leaf bytes.now) → low ≤ key_in key → key_in key < high
+    ensures place { (low high : ℕ) → IsForm Kind.Leaf page bytes.now → Within low high (pairs_in Kind.Leaf bytes.now) → low ≤ key_in key → key_in key < high
         → Places (pairs_in Kind.Leaf bytes.now) (record { key = key_in key; value = value }) result }
-    ensures fault { IfErr result (λ fault. fault ≡ PageFault.Damaged page) }
+    ensures within { IfOk result (λ place. IsPlaceOf (count_in bytes.now) place) }
+    ensures damaged { IfErr result (λ fault. fault ≡ PageFault.Damaged page) }
+    ensures unfit { IfErr result (λ fault. IsForm Kind.Leaf page bytes.now → ⊥) }
 {
-    if !is_shaped(bytes, Kind::Leaf) {
+    if !is_page(bytes, Kind::Leaf, page) {
         return Err(PageFault::Damaged(page));
     }
     let next = first_above(bytes, Kind::Leaf, 0, key);
@@ -53,9 +56,11 @@ pub fn read_place<P: Pages>(
     key: Key,
     value: u64,
 ) -> Result<Place, PageFault>
-    ensures place { IsTrue (P.view pages.old).is_told → (number low high : ℕ) → IsForm Kind.Leaf number ((P.view pages.old).page page)
+    ensures place { IsTrue (P.view pages.old).is_told → (low high : ℕ) → IsForm Kind.Leaf page ((P.view pages.old).page page)
         → Within low high (leaf_of (P.view pages.old).page page) → low ≤ key_in key → key_in key < high
         → Places (leaf_of (P.view pages.old).page page) (record { key = key_in key; value = value }) result }
+    ensures within { IfOk result (λ place. IsTrue (P.view pages.old).is_told → IsPlaceOf (count_in ((P.view pages.old).page page)) place) }
+    ensures names { IsTrue (P.view pages.old).is_told → Names (P.view pages.old).page 0 page result }
     ensures fault { IfErr result NoMemory }
     ensures reads { HasReads 1 (P.view pages.old) (P.view pages.new) result }
     ensures keeps { P.keeps pages.old pages.new }
@@ -77,6 +82,10 @@ pub fn put_over<P: Pages>(
     requires may_change { (P.view pages.old).is_read_only ≡ false }
     ensures over { OnOk result (IsTrue (P.view pages.old).is_told → IsForm Kind.Leaf page ((P.view pages.old).page page)
         → IsAdded Kind.Leaf page (take n (leaf_of (P.view pages.old).page page) ++ record { key = key_of key.now; value = value } ∷ drop (n + 1) (leaf_of (P.view pages.old).page page)) (P.view pages.old) (P.view pages.new)) }
+    ensures fine { IsTrue (P.view pages.old).is_told → IsForm Kind.Leaf page ((P.view pages.old).page page) → n < count_in ((P.view pages.old).page page)
+        → IfErr result NotDamaged }
+    ensures rises { OnOk result (IsTrue (P.view pages.old).is_told → Rises 0 (P.view pages.old) (P.view pages.new)) }
+    ensures names { IsTrue (P.view pages.old).is_told → n < count_in ((P.view pages.old).page page) → NamesSince (P.view pages.old).page (P.view pages.new).page 0 page result }
     ensures counts { Counts 1 1 (P.view pages.old) (P.view pages.new) }
     ensures cause { HasPageCause (P.view pages.old) (P.view pages.new) result }
     ensures keeps { P.keeps pages.old pages.new }

@@ -3,9 +3,10 @@ ghost use Rattle.std.specs.Prelude.{◌≡◌, ◌≤◌, ◌<◌, ◌+◌, ◌*
 ghost use Rattle.gaz_page.specs.Pages.{HasPageCause, Counts};
 ghost use Rattle.gaz_leaf.specs.Node.{Pair, key_in, key_of};
 ghost use Rattle.gaz_tree.specs.Tree.{IsHead, Reaches};
-ghost use Rattle.gaz_tree.specs.Put.{HasChain, IsTaken, Puts};
+ghost use Rattle.gaz_tree.specs.Put.{HasChain, IsTaken, Puts, PutNames, Rises, IfKept};
 
 use crate::add::add_entry;
+use crate::even::even_out;
 use crate::get::read_way;
 use crate::grown::Grown;
 use crate::place::{Place, put_over, read_place};
@@ -23,6 +24,9 @@ fn put_leaf<P: Pages>(
     ensures puts { IsTrue (P.view pages.old).is_told → (low high : ℕ) → IsHead (P.view pages.old).page 0 page low high → low ≤ key_of key.now → key_of key.now < high
         → IsTaken (P.view pages.old).fresh page → HasChain (P.view pages.old)
         → Puts (P.view pages.old) (P.view pages.new) 0 page low high (record { key = key_of key.now; value = value }) result }
+    ensures rises { OnOk result (IsTrue (P.view pages.old).is_told → Rises 1 (P.view pages.old) (P.view pages.new)) }
+    ensures names { IsTrue (P.view pages.old).is_told → PutNames (P.view pages.old) (P.view pages.new) 0 page result }
+    ensures light { IfKept result ((P.view pages.new).reads ≤ (P.view pages.old).reads + 2) }
     ensures counts { Counts 3 3 (P.view pages.old) (P.view pages.new) }
     ensures cause { HasPageCause (P.view pages.old) (P.view pages.new) result }
     ensures keeps { P.keeps pages.old pages.new }
@@ -38,7 +42,8 @@ fn put_leaf<P: Pages>(
     }
 }
 
-/// Puts a pair in below a page of a level. What is split off from the child becomes an entry of the page.
+/// Puts a pair in below a page of a level. What is split off from the child becomes an entry of the page. A leaf that has become full
+/// shares with the one before it.
 pub fn put_below<P: Pages>(
     pages: &mut P,
     level: u8,
@@ -50,7 +55,10 @@ pub fn put_below<P: Pages>(
     ensures puts { IsTrue (P.view pages.old).is_told → (low high : ℕ) → IsHead (P.view pages.old).page level page low high → low ≤ key_of key.now → key_of key.now < high
         → ((n : ℕ) → Reaches (P.view pages.old).page level page n → IsTaken (P.view pages.old).fresh n) → HasChain (P.view pages.old)
         → Puts (P.view pages.old) (P.view pages.new) level page low high (record { key = key_of key.now; value = value }) result }
-    ensures counts { Counts (3 * (level + 1)) (3 * (level + 1)) (P.view pages.old) (P.view pages.new) }
+    ensures rises { OnOk result (IsTrue (P.view pages.old).is_told → Rises (level + 1) (P.view pages.old) (P.view pages.new)) }
+    ensures names { IsTrue (P.view pages.old).is_told → PutNames (P.view pages.old) (P.view pages.new) level page result }
+    ensures light { IfKept result (level ≡ 0 → (P.view pages.new).reads ≤ (P.view pages.old).reads + 2) }
+    ensures counts { Counts (3 * (level + 1) + 1) (3 * (level + 1)) (P.view pages.old) (P.view pages.new) }
     ensures cause { HasPageCause (P.view pages.old) (P.view pages.new) result }
     ensures keeps { P.keeps pages.old pages.new }
 {
@@ -70,7 +78,15 @@ pub fn put_below<P: Pages>(
             &half.key,
             half.page as u64,
         ),
-        Ok(Grown::Kept) => Ok(Grown::Kept),
+        Ok(Grown::Kept) => {
+            if level != 1 {
+                return Ok(Grown::Kept);
+            }
+            match even_out(pages, page, way) {
+                Ok(()) => Ok(Grown::Kept),
+                Err(fault) => Err(fault),
+            }
+        }
         Ok(Grown::Same) => Ok(Grown::Same),
         Err(fault) => Err(fault),
     }

@@ -4,11 +4,11 @@ ghost use Rattle.gaz_leaf.specs.Node.{Pair, key_of};
 ghost use Rattle.std.specs.Prelude.{false, ◌^◌, ◌<◌, [], Some, IfOk, OnOk, OnErr};
 ghost use Rattle.gaz_page.specs.Pages.{HasPageCause, Counts, SamePages, IsDamaged, damage};
 ghost use Rattle.gaz_tree.specs.Pairs.{lookup, put};
-ghost use Rattle.gaz_tree.specs.Put.{Changes, HasChain, Trades};
-ghost use Rattle.gaz_tree.specs.Stands.{OfTree, Stands, IsWithout};
+ghost use Rattle.gaz_tree.specs.Put.{Changes, HasChain, TakesFew, Trades};
+ghost use Rattle.gaz_tree.specs.Stands.{OfTree, Stands, PutDamage, PutNamesOf, IsWithout};
 ghost use Rattle.gaz_tree.specs.Tree.{IsTop};
-ghost use Rattle.gaz_page.specs.Pages.{HasReads, NoMemory};
-ghost use Rattle.gaz_tree.specs.Calls.{IsGot};
+ghost use Rattle.gaz_page.specs.Pages.{HasReads, NoMemory, NotDamaged};
+ghost use Rattle.gaz_tree.specs.Calls.{IsGot, NamesOf, NamesSinceOf};
 
 use crate::add::load;
 use crate::get::get_below;
@@ -35,6 +35,7 @@ impl Tree {
         ensures others { OnOk result (IsTrue (P.view pages.old).is_told → Changes (λ n. ⊥) (P.view pages.old) (P.view pages.new)) }
         ensures trades { IfOk result (λ tree. IsTrue (P.view pages.old).is_told → HasChain (P.view pages.old) → 0 < (P.view pages.old).fresh
             → Trades (λ n. ⊥) (OfTree (P.view pages.new).page tree) (P.view pages.old) (P.view pages.new)) }
+        ensures takes { OnOk result (IsTrue (P.view pages.old).is_told → HasChain (P.view pages.old) → 0 < (P.view pages.old).fresh → TakesFew 1 (P.view pages.old) (P.view pages.new)) }
         ensures damaged { IsTrue (P.view pages.old).is_told → IsDamaged (damage (P.view pages.old)) result }
         ensures counts { Counts 1 2 (P.view pages.old) (P.view pages.new) }
         ensures cause { HasPageCause (P.view pages.old) (P.view pages.new) result }
@@ -56,6 +57,7 @@ impl Tree {
     pub fn get<P: Pages>(self, pages: &mut P, key: &[u8; 32]) -> Result<Option<u64>, PageFault>
         ensures got { IsTrue (P.view pages.old).is_told → (pairs : List Pair) → IsTop (P.view pages.old).page self.height self.top pairs
             → IsGot (lookup (key_of key.now) pairs) result }
+        ensures names { IsTrue (P.view pages.old).is_told → NamesOf (P.view pages.old).page self.height self.top result }
         ensures fault { IfErr result NoMemory }
         ensures reads { HasReads self.height (P.view pages.old) (P.view pages.new) result }
         ensures keeps { P.keeps pages.old pages.new }
@@ -84,6 +86,11 @@ impl Tree {
         // The pages of the tree and the free ones are those of before and those newly taken. Only pages of the tree change.
         ensures trades { OnOk result (IsTrue (P.view pages.old).is_told → (pairs : List Pair) → Stands (P.view pages.old) self.old pairs
             → Trades (OfTree (P.view pages.old).page self.old) (OfTree (P.view pages.new).page self.new) (P.view pages.old) (P.view pages.new)) }
+        // At most seven pages are taken.
+        ensures takes { OnOk result (IsTrue (P.view pages.old).is_told → (pairs : List Pair) → Stands (P.view pages.old) self.old pairs
+            → TakesFew 7 (P.view pages.old) (P.view pages.new)) }
+        ensures damaged { IsTrue (P.view pages.old).is_told → (pairs : List Pair) → Stands (P.view pages.old) self.old pairs → PutDamage (P.view pages.old) self.old pairs result }
+        ensures names { IsTrue (P.view pages.old).is_told → PutNamesOf (P.view pages.old) (P.view pages.new) self.old result }
         ensures left { OnErr result (self.new ≡ self.old) }
         ensures counts { self.old.height ≤ 6 → Counts 20 20 (P.view pages.old) (P.view pages.new) }
         ensures cause { HasPageCause (P.view pages.old) (P.view pages.new) result }
@@ -119,6 +126,8 @@ impl Tree {
         requires may_change { (P.view pages.old).is_read_only ≡ false }
         ensures removed { IfOk result (λ found. IsTrue (P.view pages.old).is_told → (pairs : List Pair) → Stands (P.view pages.old) self.old pairs
             → IsWithout (P.view pages.old) (P.view pages.new) self.old self.new (key_of key.now) pairs found) }
+        ensures damaged { IsTrue (P.view pages.old).is_told → (pairs : List Pair) → Stands (P.view pages.old) self.old pairs → IfErr result NotDamaged }
+        ensures names { IsTrue (P.view pages.old).is_told → NamesSinceOf (P.view pages.old).page (P.view pages.new).page self.old.height self.old.top result }
         ensures left { OnErr result (self.new ≡ self.old) }
         ensures counts { self.old.height ≤ 6 → Counts 25 20 (P.view pages.old) (P.view pages.new) }
         ensures cause { HasPageCause (P.view pages.old) (P.view pages.new) result }

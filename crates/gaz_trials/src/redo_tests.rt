@@ -1,10 +1,9 @@
 //! Commits and recoveries over a station in memory, stopped at each of their calls.
 use crate::redo::{
-    Held, STOPS, calls_to_commit, calls_to_recover, failed_commit, failed_recovery, has_pages,
-    log_of, many_pages, recovered, recovered_log, stopped_commit, stopped_second_commit,
-    three_pages, two_pages, what_stands,
+    Committed, Held, STOPS, Stop, Version, after_failed_commit, after_failed_recovery,
+    after_second_commit, after_stops, calls_to_commit_each, calls_to_recover, ends_in,
+    recovered_nothing, recovered_slots, stop_of, whole_commit,
 };
-use gaz_outside::Area;
 use gaz_redo::Recovered;
 use std::test::Fail;
 
@@ -12,25 +11,28 @@ use std::test::Fail;
 #[test]
 fn commit_lays_its_images_and_closes_the_gate(rt: HostRuntime) -> Result<(), Fail> {
     let alloc = rt.alloc();
-    let images = two_pages(alloc)?;
-    let (station, is_done) = stopped_commit(alloc, &images, u64::MAX);
-    assert!(rt; is_done);
-    assert_eq!(rt; what_stands(&station), Held::Both);
-    assert_eq!(rt; station.area(Area::Log).len(), 8240);
-    assert_eq!(rt; station.area(Area::Mark), b"\0".as_slice());
-    assert_eq!(rt;
-        recovered(&station, 0, 1, u64::MAX)?.1,
-        Ok(Recovered::Clean)
-    );
+    let done = Committed {
+        is_done: true,
+        held: Held::Both,
+        log: 8240,
+        gate: Some(0),
+    };
+    assert_eq!(rt; whole_commit(alloc)?, done);
 
-    let (at_the_gate, _) = stopped_commit(alloc, &images, 3);
-    let (opened, answer) = recovered(&at_the_gate, 0, 1, u64::MAX)?;
-    assert_eq!(rt; answer, Ok(Recovered::Redone(2)));
-    assert_eq!(rt; what_stands(&opened), Held::Both);
-    assert_eq!(rt; recovered(&opened, 0, 1, u64::MAX)?.1, Ok(Recovered::Clean));
-    let (closed, answer) = recovered(&at_the_gate, 0, 2, u64::MAX)?;
-    assert_eq!(rt; answer, Ok(Recovered::Clean));
-    assert_eq!(rt; what_stands(&closed), Held::Nothing);
+    let (one, two) = (stop_of(0, 1), stop_of(0, 2));
+    let cases: [(u64, &[Stop], Recovered, Held); 4] = [
+        (u64::MAX, &[one], Recovered::Clean, Held::Both),
+        (3, &[one], Recovered::Redone(2), Held::Both),
+        (3, &[one, one], Recovered::Clean, Held::Both),
+        (3, &[two], Recovered::Clean, Held::Nothing),
+    ];
+    for (calls, stops, answer, held) in &cases {
+        assert_eq!(rt;
+            after_stops(alloc, *calls, stops)?,
+            (Some(Ok(*answer)), *held),
+            "{calls} calls"
+        );
+    }
     Ok(())
 }
 
@@ -39,9 +41,7 @@ fn commit_lays_its_images_and_closes_the_gate(rt: HostRuntime) -> Result<(), Fai
 /// 64 KiB in three writes, 40 neighbours in three, and two more in one: 14.
 #[test]
 fn slots_and_neighbours_go_out_together(rt: HostRuntime) -> Result<(), Fail> {
-    let alloc = rt.alloc();
-    assert_eq!(rt; calls_to_commit(alloc, &two_pages(alloc)?), Some(10));
-    assert_eq!(rt; calls_to_commit(alloc, &many_pages(alloc)?), Some(14));
+    assert_eq!(rt; calls_to_commit_each(rt.alloc())?, (Some(10), Some(14)));
     Ok(())
 }
 
@@ -50,25 +50,23 @@ fn slots_and_neighbours_go_out_together(rt: HostRuntime) -> Result<(), Fail> {
 #[test]
 fn stops_in_a_commit_and_a_recovery_leave_all_images_or_none(rt: HostRuntime) -> Result<(), Fail> {
     let alloc = rt.alloc();
-    let images = two_pages(alloc)?;
     for calls in 0..=10 {
-        let (station, is_done) = stopped_commit(alloc, &images, calls);
-        assert_eq!(rt; is_done, calls == 10);
-        for (keep, fill) in STOPS {
-            let (ended, answer) = recovered(&station, keep, fill, u64::MAX)?;
-            assert!(rt; answer.is_ok());
-            let wanted = what_stands(&ended);
+        assert_eq!(rt; ends_in(alloc, calls)?, calls == 10);
+        for &(keep, fill) in &STOPS {
+            let whole = stop_of(keep, fill);
+            let (answer, wanted) = after_stops(alloc, calls, &[whole])?;
+            assert!(rt; answer.is_some_and(|it| it.is_ok()));
             assert!(rt; wanted == Held::Both || (wanted == Held::Nothing && calls < 10));
-            let most = calls_to_recover(&station, keep, fill)?.expect(&rt, "a recovery ends");
+            let most = calls_to_recover(alloc, calls, whole)?.expect(&rt, "a recovery ends");
             for more in 0..=most {
-                let (first, _) = recovered(&station, keep, fill, more)?;
-                let (second, answer) = recovered(&first, keep, fill, u64::MAX)?;
-                assert!(rt; answer.is_ok());
-                assert_eq!(rt;
-                    what_stands(&second),
-                    wanted,
-                    "{calls} calls, {keep}, {fill}, {more} more"
-                );
+                let first = Stop {
+                    keep,
+                    fill,
+                    calls: more,
+                };
+                let (answer, held) = after_stops(alloc, calls, &[first, whole])?;
+                assert!(rt; answer.is_some_and(|it| it.is_ok()));
+                assert_eq!(rt; held, wanted, "{calls} calls, {keep}, {fill}, {more} more");
             }
         }
     }
@@ -80,19 +78,19 @@ fn stops_in_a_commit_and_a_recovery_leave_all_images_or_none(rt: HostRuntime) ->
 #[test]
 fn stops_in_two_recoveries_leave_all_images(rt: HostRuntime) -> Result<(), Fail> {
     let alloc = rt.alloc();
-    let (station, _) = stopped_commit(alloc, &two_pages(alloc)?, 5);
-    assert_eq!(rt; calls_to_recover(&station, 0, 0)?, Some(16));
+    assert_eq!(rt; calls_to_recover(alloc, 5, stop_of(0, 0))?, Some(16));
     for calls in 0..=16 {
-        for (more, (keep, fill)) in (0..=16).zip(STOPS.into_iter().chain(STOPS)) {
-            let (first, _) = recovered(&station, keep, fill, calls)?;
-            let (second, _) = recovered(&first, keep, fill, more)?;
-            let (third, answer) = recovered(&second, keep, fill, u64::MAX)?;
-            assert!(rt; answer.is_ok());
-            assert_eq!(rt;
-                what_stands(&third),
-                Held::Both,
-                "{calls} calls, {more} more"
-            );
+        for more in 0..=16 {
+            let (keep, fill) = STOPS[more % 9];
+            let first = Stop { keep, fill, calls };
+            let second = Stop {
+                keep,
+                fill,
+                calls: more as u64,
+            };
+            let (answer, held) = after_stops(alloc, 5, &[first, second, stop_of(keep, fill)])?;
+            assert!(rt; answer.is_some_and(|it| it.is_ok()));
+            assert_eq!(rt; held, Held::Both, "{calls} calls, {more} more");
         }
     }
     Ok(())
@@ -100,16 +98,12 @@ fn stops_in_two_recoveries_leave_all_images(rt: HostRuntime) -> Result<(), Fail>
 
 #[test]
 fn each_call_that_fails_ends_the_commit(rt: HostRuntime) -> Result<(), Fail> {
-    let alloc = rt.alloc();
-    let images = two_pages(alloc)?;
     for call in 1..=11 {
-        let (station, is_done) = failed_commit(alloc, &images, call)?;
+        let (is_done, answer, held) = after_failed_commit(rt.alloc(), call)?;
         assert_eq!(rt; is_done, call > 10, "call {call}");
-        let (after, answer) = recovered(&station, 0, 255, u64::MAX)?;
         assert!(rt; answer.is_ok());
-        let wanted = what_stands(&after);
         assert!(rt;
-            wanted == Held::Both || (wanted == Held::Nothing && call <= 10),
+            held == Held::Both || (held == Held::Nothing && call <= 10),
             "call {call}"
         );
     }
@@ -120,18 +114,11 @@ fn each_call_that_fails_ends_the_commit(rt: HostRuntime) -> Result<(), Fail> {
 /// slots, one reads both slots, two write the pages, three sync their areas, and two close the gate: 16.
 #[test]
 fn each_call_that_fails_ends_the_recovery(rt: HostRuntime) -> Result<(), Fail> {
-    let alloc = rt.alloc();
-    let log = log_of(alloc, 2, &[(2, 0), (3, 0)])?;
     for call in 1..=17 {
-        let (station, is_done) = failed_recovery(alloc, &log, call)?.expect(&rt, "an open gate");
-        assert_eq!(rt; is_done, call > 16, "call {call}");
-        let (after, answer) = recovered(&station, 0, 255, u64::MAX)?;
-        assert!(rt; answer.is_ok());
-        assert!(rt; has_pages(&after, Area::Root, &[0xcc]));
-        assert!(rt; has_pages(&after, Area::Left, &[0xcc]));
         assert_eq!(rt;
-            recovered(&after, 0, 255, u64::MAX)?.1,
-            Ok(Recovered::Clean)
+            after_failed_recovery(rt.alloc(), call)?,
+            Some((call > 16, true, Ok(Recovered::Clean))),
+            "call {call}"
         );
     }
     Ok(())
@@ -151,41 +138,30 @@ fn open_gate_is_redone_over_a_log_in_form_alone(rt: HostRuntime) -> Result<(), F
         (1, &[(1, 0)], Recovered::NotALog),
         (1, &[(2, 1)], Recovered::NotALog),
     ];
-    for (count, homes, answer) in cases {
-        let log = log_of(alloc, count, homes)?;
+    for (count, homes, answer) in &cases {
         assert_eq!(rt;
-            recovered_log(alloc, &log)?,
-            Ok(answer),
+            recovered_slots(alloc, *count, homes)?,
+            Ok(*answer),
             "{count} of {homes:?}"
         );
     }
-    assert_eq!(rt; recovered_log(alloc, b"")?, Ok(Recovered::NotALog));
+    assert_eq!(rt; recovered_nothing(alloc)?, Ok(Recovered::NotALog));
     Ok(())
 }
 
 /// The second commit writes pages 3 and 4 in one call, and page 30 in another.
 #[test]
 fn stop_in_a_second_commit_leaves_all_images_or_none(rt: HostRuntime) -> Result<(), Fail> {
-    let alloc = rt.alloc();
-    let (many, three) = (many_pages(alloc)?, three_pages(alloc)?);
-    let mut old = [0; 40];
-    for page in 0..40u8 {
-        old[page as usize] = page;
-    }
-    let mut new = old;
-    (new[3], new[4], new[30]) = (0xee, 0xee, 0xee);
     for calls in 0..=9 {
-        let (station, is_done) = stopped_second_commit(alloc, &many, &three, calls).expect(
-            &rt,
-            "a first commit",
-        );
-        assert_eq!(rt; is_done, calls == 9);
-        for (keep, fill) in STOPS {
-            let (after, answer) = recovered(&station, keep, fill, u64::MAX)?;
-            assert!(rt; answer.is_ok());
-            let is_old = has_pages(&after, Area::Left, &old);
-            assert!(rt; has_pages(&after, Area::Left, &new) || (is_old && calls < 9));
-            assert!(rt; has_pages(&after, Area::Right, &[0xdd, 0xdd]));
+        for &(keep, fill) in &STOPS {
+            let (is_done, is_recovered, version) = after_second_commit(
+                rt.alloc(),
+                calls,
+                stop_of(keep, fill),
+            )?.expect(&rt, "a first commit");
+            assert_eq!(rt; is_done, calls == 9);
+            assert!(rt; is_recovered);
+            assert!(rt; version == Version::New || (version == Version::Old && calls < 9));
         }
     }
     Ok(())

@@ -1,13 +1,13 @@
-use Rattle.std.proofs.Common.{◌≡◌, ◌<◌, ℕ, refl, sym, subst, ◌∙◌, arith, Ok, Err, inr}
+use Rattle.std.proofs.Common.{◌≡◌, ◌<◌, ◌+◌, ◌*◌, ℕ, List, refl, sym, subst, ◌∙◌, arith, Ok, Err, inr}
 use Rattle.std.specs.Prelude.{IfOk, OnOk, Result, ◌==◌, if◌then◌else◌}
 use Rattle.gaz_page.specs.declared.pages.PageFault.{PageFault}
 use Rattle.gaz_page.specs.Pages.{PagesView, SamePages, damage}
-use Rattle.gaz_heap.specs.Heap.{TakeDamage, PutDamage}
+use Rattle.gaz_heap.specs.Heap.{Stores, TakeDamage, PutDamage}
 use Rattle.gaz_page.specs.Free.{free_link}
 use Rattle.gaz_num.specs.Numbers.{some_if}
 use Rattle.std.specs.Option.{is_none}
 use Rattle.gaz_page.specs.declared.pages.PageFault.TheVariants.{Failed, Damaged, Memory}
-use Rattle.gaz_heap.specs.Facts.{Puts}
+use Rattle.gaz_heap.specs.Facts.{Puts, PutsThere}
 use Rattle.gaz_heap.proofs.Asked.{told_still}
 use Rattle.gaz_heap.proofs.StoredPuts.{stored_puts}
 use Rattle.gaz_heap.proofs.heap.put_short.Goals as goal
@@ -19,6 +19,19 @@ more_ok P Q (Err e) more p = tt
 all_ok : (P : Type 0) (r : Result ℕ PageFault) → P → OnOk r P
 all_ok P (Ok n) p = p
 all_ok P (Err e) p = tt
+
+all_if_ok : (P : ℕ → Type 0) (r : Result ℕ PageFault) → ((n : ℕ) → P n) → IfOk r P
+all_if_ok P (Ok n) all = all n
+all_if_ok P (Err e) all = tt
+
+put_there : (number slot place : ℕ) (bytes : List ℕ) (old new : PagesView) → place ≡ number * 65536 + slot → slot < 65536 → Stores number slot bytes old new → PutsThere old new number number place
+put_there number slot place bytes old new is small stores = record {
+  page = omega (arith, is, small);
+  same = refl;
+  least = λ k below. stores.least k (omega (arith, below, is, small));
+  free = stores.free;
+  fresh = stores.fresh;
+}
 
 same_damage : (old mid : PagesView) → SamePages old mid → damage mid ≡ damage old
 unfolding damage
@@ -58,6 +71,20 @@ returns-in-Ok-Some-clause-puts g c told free heap =
       some = c.if-current-eq0.false;
       heap = heap;
     }))
+
+pub returns-in-Ok-Some-clause-there : goal.returns-in-Ok-Some-clause-there
+returns-in-Ok-Some-clause-there g c told _ _ =
+    let number = c.args.current.now in
+    let stores = rw c.in-Ok-Some.field-0-is at c.in-Ok-Some.ensures.stores told in
+    let small : c.in-Ok-Some.slot < 1020 = rw c.in-Ok-Some.field-0-is at c.in-Ok-Some.ensures.slot in
+    put_there number c.in-Ok-Some.slot c.place_of.result c.args.bytes.now (g.P.Pages.view c.args.pages.now) (g.P.Pages.view c.store_in.new.pages) c.place_of.ensures.place (omega (arith, small)) stores.0
+
+pub returns-in-Ok-None-clause-there : goal.returns-in-Ok-None-clause-there
+returns-in-Ok-None-clause-there g c =
+    all_if_ok _ c.put_new-in-Ok-None.result (λ place told _ room. let kept = rw c.in-Ok-None.field-0-is at c.in-Ok-None.ensures.stores told in absurd (omega (arith, kept.3, room)))
+
+pub returns-then-current-eq0-clause-there : goal.returns-then-current-eq0-clause-there
+returns-then-current-eq0-clause-there g c = all_if_ok _ c.put_new.result (λ place told some _. absurd (some c.if-current-eq0.true))
 
 pub returns-in-Ok-None-clause-puts : goal.returns-in-Ok-None-clause-puts
 returns-in-Ok-None-clause-puts g c =

@@ -11,6 +11,6 @@ returns-in-Ok-write-clause-stores g c told =
     let filled = c.in-Some.ensures.filled in
     let still = told_still (v c.args.pages.now) (v c.load.new.pages) asks.counts.told told in (
       stored c.args.number c.in-Some.slot c.args.bytes.now c.load.new.page c.put_in_page.new.page (v c.args.pages.now) (v c.load.new.pages) (v c.write.new.self) (load.reads.same (λ failed. failed) told) (load.bytes told)
-          (sym c.is_record_page.ensures ∙ c.if-not-is_record_page.false) filled.0 (c.in-Ok-write.ensures.written still),
+          (sym c.is_record_page.ensures ∙ c.if-not-is_record_page.false) filled.0 c.in-Some.ensures.least (c.in-Ok-write.ensures.written still),
       filled.1,
     )

@@ -4,6 +4,7 @@ use Rattle.gaz_slots.specs.RecordPage.{is_record_page}
 use Rattle.gaz_slots.specs.Edited.{Filled}
 use Rattle.gaz_slots.proofs.Form.{form_says}
 use Rattle.gaz_slots.proofs.Slots.{slots_fit, slot_small}
+use Rattle.gaz_slots.proofs.RoomLeft.{used_in}
 use Rattle.gaz_slots.proofs.record_page.insert.Goals as goal
 
 pub find_free-slot-requires : goal.find_free-slot-requires
@@ -19,6 +20,9 @@ returns-then-put_in_slot c =
     let f = c.put_in_slot.ensures.filled c.args.number c.requires.form c.find_free-slot.ensures.free c.if-put_in_slot.true in
     record {
       filled = f.filled;
+      least = λ k below. used_in c.args.page.now k (omega (arith, below, c.find_free-slot.ensures.within)) (c.find_free-slot.ensures.least k below);
+      full = λ none_. absurd cc;
+      same = λ none_. absurd cc;
       slot = slot_small c.args.number c.find_free-slot.result c.args.bytes.now c.args.page.now c.put_in_slot.new.page f;
       size = c.put_in_slot.ensures.size;
     }

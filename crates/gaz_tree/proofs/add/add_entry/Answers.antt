@@ -3,6 +3,8 @@ use Rattle.std.specs.Prelude.{IsTrue}
 use Rattle.gaz_leaf.specs.Node.{Pair, pairs_in, key_of, IsForm}
 use Rattle.gaz_tree.specs.Put.{inserted, Adds}
 use Rattle.gaz_tree.proofs.Adds.{adds_over}
+use Rattle.gaz_tree.proofs.Trading.{take_damage_over}
+use Rattle.gaz_tree.proofs.PutNamed.{add_taken}
 use Rattle.gaz_tree.proofs.add.add_entry.Goals as goal
 
 pub returns-then-count-capacity-clause-adds : goal.returns-then-count-capacity-clause-adds
@@ -15,3 +17,17 @@ returns-then-count-capacity-clause-adds g c told form =
     let added = c.split.ensures.adds still (subst (IsForm c.args.kind c.args.page) (sym bytes) form) in
     adds_over c.args.kind c.args.page (inserted c.args.n new (pairs_in c.args.kind ((v c.args.pages.now).page c.args.page))) (v c.args.pages.now) (v c.load.new.pages) (v c.split.new.pages) c.split.result (reads.same (λ failed. failed) told)
     (subst (λ (l : List ℕ). Adds c.args.kind c.args.page (inserted c.args.n new (pairs_in c.args.kind l)) (v c.load.new.pages) (v c.split.new.pages) c.split.result) bytes added)
+
+pub returns-then-count-capacity-clause-damaged : goal.returns-then-count-capacity-clause-damaged
+returns-then-count-capacity-clause-damaged g c told form within =
+    let v = g.P.Pages.view in
+    let reads = c.in-Ok.ensures.reads in
+    let still : IsTrue (v c.load.new.pages).is_told = subst IsTrue (sym reads.counts.told) told in
+    take_damage_over (v c.args.pages.now) (v c.load.new.pages) c.split.result (reads.same (λ failed. failed) told) (c.split.ensures.damaged still)
+
+pub returns-then-count-capacity-clause-names : goal.returns-then-count-capacity-clause-names
+returns-then-count-capacity-clause-names g c told =
+    let v = g.P.Pages.view in
+    let reads = c.in-Ok.ensures.reads in
+    let still : IsTrue (v c.load.new.pages).is_told = subst IsTrue (sym reads.counts.told) told in
+    add_taken c.args.kind c.args.page c.args.n (v c.args.pages.now) (v c.load.new.pages) (v c.split.new.pages) c.split.result (reads.same (λ failed. failed) told) (c.split.ensures.damaged still)

@@ -1,10 +1,16 @@
-use Rattle.std.proofs.Common.{◌≡◌, ◌+◌, ◌++◌, ◌∙◌, ℕ, List, sym, ap, subst}
+use Rattle.std.proofs.Common.{inl, ◌≡◌, ◌+◌, ◌++◌, ◌∙◌, ℕ, List, refl, sym, ap, subst}
 use Rattle.std.specs.Prelude.{IsTrue}
 use Rattle.gaz_page.specs.Pages.{PagesView, SamePages}
 use Rattle.gaz_leaf.specs.declared.kind.Kind.{Kind}
 use Rattle.gaz_leaf.specs.Node.{IsForm, pairs_in}
 use Rattle.gaz_tree.specs.Remove.{child_in, key_in_page, raised, both_in}
 use Rattle.gaz_tree.proofs.Answered.{same_twice}
+use Rattle.gaz_leaf.specs.declared.kind.Kind.TheVariants.{Inner}
+use Rattle.gaz_leaf.specs.Node.{count_of}
+use Rattle.gaz_tree.specs.declared.shrunk.Shrunk.{Shrunk}
+use Rattle.std.proofs.Common.{arith}
+use Rattle.gaz_tree.proofs.Ways.{child_there}
+use Rattle.gaz_tree.proofs.Named.{child_unfit, child_fine, read_same}
 use Rattle.gaz_tree.proofs.Removes.{ok_of}
 use Rattle.gaz_tree.proofs.mend.mend_two.Goals as goal
 
@@ -45,8 +51,8 @@ returns-then-first-second-clause-mends g c = ok_of _ c.join_pages.result (λ tol
       mends = c.join_pages.ensures.mends again (parent ∙ (λ j. sym r.same.pages j c.args.page)) r.left_is r.both;
     })
 
-pub returns-clause-mends : goal.returns-clause-mends
-returns-clause-mends g c = ok_of _ c.share_pages.result (λ told parent.
+pub returns-in-Ok-share_pages-clause-mends : goal.returns-in-Ok-share_pages-clause-mends
+returns-in-Ok-share_pages-clause-mends g c told parent =
     let v = g.P.Pages.view in
     let old = v c.args.pages.now in
     let reads = c.in-Ok.ensures.reads in
@@ -58,6 +64,49 @@ returns-clause-mends g c = ok_of _ c.share_pages.result (λ told parent.
     record {
       mid = v c.load-2.new.pages;
       same = r.same;
-      mends = c.share_pages.ensures.mends again (parent ∙ (λ j. sym r.same.pages j c.args.page)) r.left_is
-          (λ n f. c.raise.ensures.form n (subst (IsForm c.args.kind n) (sym r.right_is) f)) r.both;
-    })
+      mends = inl (c.in-Ok-share_pages.ensures.shares again (parent ∙ (λ j. sym r.same.pages j c.args.page)) r.left_is
+          (λ n f. c.raise.ensures.form n (subst (IsForm c.args.kind n) (sym r.right_is) f)) r.both);
+    }
+
+pub returns-in-Err-clause-names : goal.returns-in-Err-clause-names
+returns-in-Err-clause-names g c told =
+    let v = g.P.Pages.view in
+    let old = v c.args.pages.now in
+    let within = c.requires.within in
+    child_unfit Shrunk c.args.kind (pairs_in Inner c.args.parent.now) c.child_at.result old.page old.page (v c.load.new.pages).page old.is_told c.in-Err.fault told refl
+    (read_same 1 old (v c.load.new.pages) c.in-Err.fault c.in-Err.ensures.reads told)
+    (child_there c.args.i c.child_at.result c.args.parent.now (omega arith) c.child_at.ensures) c.in-Err.ensures.unfit
+
+pub returns-in-Err-load-clause-names : goal.returns-in-Err-load-clause-names
+returns-in-Err-load-clause-names g c told =
+    let v = g.P.Pages.view in
+    let old = v c.args.pages.now in
+    let mid = v c.load.new.pages in
+    let reads = c.in-Ok.ensures.reads in
+    let same = (reads.same (λ failed. failed) told).pages in
+    let still : IsTrue mid.is_told = subst IsTrue (sym reads.counts.told) told in
+    child_unfit Shrunk c.args.kind (pairs_in Inner c.args.parent.now) c.child_at-2.result old.page mid.page (v c.load-2.new.pages).page mid.is_told c.in-Err-load.fault still same
+    (λ fine. read_same 1 mid (v c.load-2.new.pages) c.in-Err-load.fault c.in-Err-load.ensures.reads still fine ∙ same)
+    (child_there (c.args.i + 1) c.child_at-2.result c.args.parent.now c.requires.within c.child_at-2.ensures) c.in-Err-load.ensures.unfit
+
+pub returns-then-second-eq0-clause-names : goal.returns-then-second-eq0-clause-names
+returns-then-second-eq0-clause-names g c told =
+    let v = g.P.Pages.view in
+    let old = v c.args.pages.now in
+    let mid = v c.load.new.pages in
+    let reads = c.in-Ok.ensures.reads in
+    let same = (reads.same (λ failed. failed) told).pages in
+    let still : IsTrue mid.is_told = subst IsTrue (sym reads.counts.told) told in
+    let reads_too = c.in-Ok-load.ensures.reads in
+    let page = c.child_at-then-second-eq0.result in
+    let is : c.child_at-2.result ≡ page = c.child_at-2.ensures ∙ sym c.child_at-then-second-eq0.ensures in
+    let bytes : c.load-2.new.buf ≡ old.page page = c.in-Ok-load.ensures.bytes still ∙ (λ j. same j c.child_at-2.result) ∙ ap old.page is in (
+      (reads_too.same (λ failed. failed) still).pages ∙ same,
+      child_there (c.args.i + 1) page c.args.parent.now c.requires.within c.child_at-then-second-eq0.ensures,
+      λ form some. (let none = c.if-second-eq0.true in let count = c.in-Ok-load.ensures.count in let e = ap count_of bytes in omega arith),
+    )
+
+pub returns-then-first-second-clause-names : goal.returns-then-first-second-clause-names
+returns-then-first-second-clause-names g c told =
+    let v = g.P.Pages.view in
+    child_fine c.args.kind (pairs_in Inner c.args.parent.now) (v c.args.pages.now).page (v c.join_pages.new.pages).page c.join_pages.result c.join_pages.ensures.fault

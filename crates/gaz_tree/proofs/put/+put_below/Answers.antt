@@ -1,13 +1,18 @@
-use Rattle.std.proofs.Common.{◌≡◌, ◌+◌, ◌-◌, ℕ, suc, refl, sym, subst, arith}
-use Rattle.std.specs.Prelude.{IsTrue, Ok}
-use Rattle.gaz_leaf.specs.declared.kind.Kind.TheVariants.{Inner}
-use Rattle.gaz_leaf.specs.Node.{Pair, IsForm, key_of}
+use Rattle.std.proofs.Common.{◌≡◌, ◌≤◌, ◌<◌, ◌+◌, ◌-◌, ℕ, List, suc, refl, sym, ap, subst, arith}
+use Rattle.std.specs.Prelude.{IsTrue, Result, Ok, Err}
+use Rattle.gaz_leaf.specs.declared.kind.Kind.TheVariants.{Leaf}
+use Rattle.gaz_leaf.specs.Node.{Pair, count_of, key_of, key_in}
 use Rattle.gaz_tree.specs.declared.grown.Grown.{Grown}
-use Rattle.gaz_tree.specs.declared.grown.Grown.TheVariants.{Same, Kept}
-use Rattle.gaz_tree.specs.Tree.{next_key, IsHead, Reaches, children_of, BeginsWithZero}
-use Rattle.gaz_tree.specs.Calls.{LeadsTo}
+use Rattle.gaz_tree.specs.declared.grown.Grown.TheVariants.{Same, Kept, Split}
+use Rattle.gaz_tree.specs.Tree.{next_key, IsHead, Reaches}
 use Rattle.gaz_tree.specs.Put.{Puts}
-use Rattle.gaz_tree.proofs.Answered.{set_out, chain_same, puts_over, split_answered, kept_answered, same_answered}
+use Rattle.gaz_tree.proofs.Answered.{step_in, puts_over, split_answered, kept_answered, same_answered, damage_up, no_damage}
+use Rattle.gaz_page.specs.declared.pages.PageFault.{PageFault}
+use Rattle.gaz_tree.specs.declared.way.Way.{Way}
+use Rattle.gaz_tree.specs.Calls.{Names}
+use Rattle.gaz_tree.proofs.Named.{names_failed, since_of, since_failed, mend_since}
+use Rattle.gaz_tree.proofs.Evened.{leaf_named, even_kept, even_kept_fine}
+use Rattle.gaz_tree.proofs.PutNamed.{put_since, put_up, put_split}
 use Rattle.gaz_tree.proofs.put.+put_below.Goals as goal
 
 pub returns-then-level-eq0-clause-puts : goal.returns-then-level-eq0-clause-puts
@@ -31,26 +36,22 @@ returns-in-Ok-Split-clause-puts g t c told low high head lo hi lies chain =
     let some = c.if-level-eq0.false in
     let below = c.args.level - 1 in
     let next : c.args.level ≡ suc below = omega arith in
-    let key = c.read.ensures.is in
     let k = key_of c.args.key.now in
     let to = c.in-Ok.way in
     let page = c.args.page in
     let p : Pair = record { key = k; value = c.args.value } in
-    let leads = λ (number : ℕ) (f : IsForm Inner number (old.page page)) (b : BeginsWithZero (children_of old.page page)).
-    subst (λ (m : ℕ). LeadsTo (children_of old.page page) m (Ok to)) key (c.in-Ok.ensures.leads told number f b) in
-    let set = set_out old mid c.args.level below page low high k to same next head lo hi lies leads in
-    let w = set.way.way in
-    let put = subst (λ (r : Grown). Puts mid (v c.put_below.new.pages) below to.child w.at (next_key high w.ys) p (Ok r)) c.in-Ok-Split.field-0-is
-    (c.in-Ok-Split.ensures.puts still w.at (next_key high w.ys) set.child.tree.1 w.start w.end set.child.lies (chain_same old mid same chain)) in
+    let step = step_in old mid (v c.put_below.new.pages) c.args.level below page low high (key_in c.read.result) to p (Ok c.in-Ok-Split.field-0) (Ok (Split c.in-Ok-Split.half)) same next head lo hi lies chain
+    c.read.ensures.is (c.in-Ok.ensures.leads told) (ap (λ (r : Grown). Ok r) c.in-Ok-Split.field-0-is) (c.in-Ok-Split.ensures.puts still) in
     let again : IsTrue (v c.put_below.new.pages).is_told = subst IsTrue (sym c.put_below.ensures.counts.told) still in
     let last = v c.add_entry.new.pages in
     subst (λ (l : ℕ). Puts old last l page low high p c.add_entry.result) (sym next)
     (puts_over old mid last (suc below) page low high p c.add_entry.result same reads.unchanged
-    (split_answered mid (v c.put_below.new.pages) last below page low high k to.place to.child (to.place + 1) p c.in-Ok-Split.half c.add_entry.result set.way refl refl put
-    (c.add_entry.ensures.adds again)))
+    (split_answered mid (v c.put_below.new.pages) last below page low high k to.place to.child (to.place + 1) p c.in-Ok-Split.half c.add_entry.result step.way refl refl step.put
+    (c.add_entry.ensures.adds again) (c.add_entry.ensures.damaged again)
+    (subst (λ (m : ℕ → List ℕ). to.place + 1 ≤ count_of (m page)) (sym same.pages) (let b = c.in-Ok.ensures.place told in omega arith))))
 
-pub returns-in-Ok-Kept-clause-puts : goal.returns-in-Ok-Kept-clause-puts
-returns-in-Ok-Kept-clause-puts g t c told low high head lo hi lies chain =
+pub returns-then-level-ne1-clause-puts : goal.returns-then-level-ne1-clause-puts
+returns-then-level-ne1-clause-puts g t c told low high head lo hi lies chain =
     let v = g.P.Pages.view in
     let old = v c.args.pages.now in
     let mid = v c.read_way.new.pages in
@@ -60,21 +61,84 @@ returns-in-Ok-Kept-clause-puts g t c told low high head lo hi lies chain =
     let some = c.if-level-eq0.false in
     let below = c.args.level - 1 in
     let next : c.args.level ≡ suc below = omega arith in
-    let key = c.read.ensures.is in
     let k = key_of c.args.key.now in
     let to = c.in-Ok.way in
     let page = c.args.page in
     let p : Pair = record { key = k; value = c.args.value } in
-    let leads = λ (number : ℕ) (f : IsForm Inner number (old.page page)) (b : BeginsWithZero (children_of old.page page)).
-    subst (λ (m : ℕ). LeadsTo (children_of old.page page) m (Ok to)) key (c.in-Ok.ensures.leads told number f b) in
-    let set = set_out old mid c.args.level below page low high k to same next head lo hi lies leads in
-    let w = set.way.way in
-    let put = subst (λ (r : Grown). Puts mid (v c.put_below.new.pages) below to.child w.at (next_key high w.ys) p (Ok r)) c.in-Ok-Kept.field-0-is
-    (c.in-Ok-Kept.ensures.puts still w.at (next_key high w.ys) set.child.tree.1 w.start w.end set.child.lies (chain_same old mid same chain)) in
+    let step = step_in old mid (v c.put_below.new.pages) c.args.level below page low high (key_in c.read.result) to p (Ok c.in-Ok-Kept.field-0) (Ok Kept) same next head lo hi lies chain
+    c.read.ensures.is (c.in-Ok.ensures.leads told) (ap (λ (r : Grown). Ok r) c.in-Ok-Kept.field-0-is) (c.in-Ok-Kept.ensures.puts still) in
     let last = v c.put_below.new.pages in
     subst (λ (l : ℕ). Puts old last l page low high p (Ok Kept)) (sym next)
     (puts_over old mid last (suc below) page low high p (Ok Kept) same reads.unchanged
-    (kept_answered mid last below page low high k to.place to.child p set.way refl put))
+    (kept_answered mid last below page low high k to.place to.child p step.way refl step.put))
+
+pub returns-in-Ok-even_out-clause-puts : goal.returns-in-Ok-even_out-clause-puts
+returns-in-Ok-even_out-clause-puts g t c told low high head lo hi lies chain =
+    let v = g.P.Pages.view in
+    let old = v c.args.pages.now in
+    let mid = v c.read_way.new.pages in
+    let reads = c.in-Ok.ensures.reads in
+    let same = reads.same (λ failed. failed) told in
+    let still : IsTrue mid.is_told = subst IsTrue (sym reads.counts.told) told in
+    let some = c.if-level-eq0.false in
+    let below = c.args.level - 1 in
+    let next : c.args.level ≡ suc below = omega arith in
+    let k = key_of c.args.key.now in
+    let to = c.in-Ok.way in
+    let page = c.args.page in
+    let p : Pair = record { key = k; value = c.args.value } in
+    let step = step_in old mid (v c.put_below.new.pages) c.args.level below page low high (key_in c.read.result) to p (Ok c.in-Ok-Kept.field-0) (Ok Kept) same next head lo hi lies chain
+    c.read.ensures.is (c.in-Ok.ensures.leads told) (ap (λ (r : Grown). Ok r) c.in-Ok-Kept.field-0-is) (c.in-Ok-Kept.ensures.puts still) in
+    let less = v c.put_below.new.pages in
+    let again : IsTrue less.is_told = subst IsTrue (sym c.put_below.ensures.counts.told) still in
+    let last = v c.even_out.new.pages in
+    let one : below ≡ 0 = (let e = c.if-level-ne1.false in omega arith) in
+    let kept = kept_answered mid less below page low high k to.place to.child p step.way refl step.put in
+    subst (λ (l : ℕ). Puts old last l page low high p (Ok Kept)) (sym next)
+    (puts_over old mid last (suc below) page low high p (Ok Kept) same reads.unchanged
+    (even_kept mid less last below page low high to.place p one kept (c.in-Ok-even_out.ensures.evens again)))
+
+pub returns-in-Err-even_out-clause-puts : goal.returns-in-Err-even_out-clause-puts
+returns-in-Err-even_out-clause-puts g t c told low high head lo hi lies chain =
+    let v = g.P.Pages.view in
+    let old = v c.args.pages.now in
+    let mid = v c.read_way.new.pages in
+    let reads = c.in-Ok.ensures.reads in
+    let same = reads.same (λ failed. failed) told in
+    let still : IsTrue mid.is_told = subst IsTrue (sym reads.counts.told) told in
+    let some = c.if-level-eq0.false in
+    let below = c.args.level - 1 in
+    let next : c.args.level ≡ suc below = omega arith in
+    let k = key_of c.args.key.now in
+    let to = c.in-Ok.way in
+    let page = c.args.page in
+    let p : Pair = record { key = k; value = c.args.value } in
+    let step = step_in old mid (v c.put_below.new.pages) c.args.level below page low high (key_in c.read.result) to p (Ok c.in-Ok-Kept.field-0) (Ok Kept) same next head lo hi lies chain
+    c.read.ensures.is (c.in-Ok.ensures.leads told) (ap (λ (r : Grown). Ok r) c.in-Ok-Kept.field-0-is) (c.in-Ok-Kept.ensures.puts still) in
+    let less = v c.put_below.new.pages in
+    let again : IsTrue less.is_told = subst IsTrue (sym c.put_below.ensures.counts.told) still in
+    let one : below ≡ 0 = (let e = c.if-level-ne1.false in omega arith) in
+    let kept = kept_answered mid less below page low high k to.place to.child p step.way refl step.put in
+    no_damage old (v c.even_out.new.pages) c.args.level page low high p c.in-Err-even_out.fault
+    (even_kept_fine Unit mid less (v c.even_out.new.pages).page below page low high to.place p c.in-Err-even_out.fault one kept
+    (subst (λ (m : ℕ → List ℕ). to.place < count_of (m page)) (sym same.pages) (c.in-Ok.ensures.place told)) (c.in-Err-even_out.ensures.names again))
+
+pub returns-in-Err-even_out-clause-names : goal.returns-in-Err-even_out-clause-names
+returns-in-Err-even_out-clause-names g t c told =
+    let v = g.P.Pages.view in
+    let old = v c.args.pages.now in
+    let mid = v c.read_way.new.pages in
+    let less = v c.put_below.new.pages in
+    let reads = c.in-Ok.ensures.reads in
+    let still : IsTrue mid.is_told = subst IsTrue (sym reads.counts.told) told in
+    let again : IsTrue less.is_told = subst IsTrue (sym c.put_below.ensures.counts.told) still in
+    let next : c.args.level ≡ suc 0 = (let e = c.if-level-ne1.false in omega arith) in
+    let result : Result Unit PageFault = Err c.in-Err-even_out.fault in
+    let since = mend_since old.page less.page (v c.even_out.new.pages).page c.args.level 0 c.args.page c.in-Ok.way.place Leaf result next refl (c.in-Ok.ensures.place told)
+    (leaf_named c.args.page c.in-Ok.way.place less.page (v c.even_out.new.pages).page result (c.in-Err-even_out.ensures.names again)) in
+    let answer : Result Grown PageFault = Err c.in-Err-even_out.fault in
+    put_since old (v c.even_out.new.pages) c.args.level c.args.page answer
+    (since_failed Unit Grown old.page (v c.even_out.new.pages).page c.args.level c.args.page c.in-Err-even_out.fault since)
 
 pub returns-in-Ok-Same-clause-puts : goal.returns-in-Ok-Same-clause-puts
 returns-in-Ok-Same-clause-puts g t c told low high head lo hi lies chain =
@@ -87,18 +151,74 @@ returns-in-Ok-Same-clause-puts g t c told low high head lo hi lies chain =
     let some = c.if-level-eq0.false in
     let below = c.args.level - 1 in
     let next : c.args.level ≡ suc below = omega arith in
-    let key = c.read.ensures.is in
     let k = key_of c.args.key.now in
     let to = c.in-Ok.way in
     let page = c.args.page in
     let p : Pair = record { key = k; value = c.args.value } in
-    let leads = λ (number : ℕ) (f : IsForm Inner number (old.page page)) (b : BeginsWithZero (children_of old.page page)).
-    subst (λ (m : ℕ). LeadsTo (children_of old.page page) m (Ok to)) key (c.in-Ok.ensures.leads told number f b) in
-    let set = set_out old mid c.args.level below page low high k to same next head lo hi lies leads in
-    let w = set.way.way in
-    let put = subst (λ (r : Grown). Puts mid (v c.put_below.new.pages) below to.child w.at (next_key high w.ys) p (Ok r)) c.in-Ok-Same.field-0-is
-    (c.in-Ok-Same.ensures.puts still w.at (next_key high w.ys) set.child.tree.1 w.start w.end set.child.lies (chain_same old mid same chain)) in
+    let step = step_in old mid (v c.put_below.new.pages) c.args.level below page low high (key_in c.read.result) to p (Ok c.in-Ok-Same.field-0) (Ok Same) same next head lo hi lies chain
+    c.read.ensures.is (c.in-Ok.ensures.leads told) (ap (λ (r : Grown). Ok r) c.in-Ok-Same.field-0-is) (c.in-Ok-Same.ensures.puts still) in
     let last = v c.put_below.new.pages in
     subst (λ (l : ℕ). Puts old last l page low high p (Ok Same)) (sym next)
     (puts_over old mid last (suc below) page low high p (Ok Same) same reads.unchanged
-    (put.0, same_answered mid below page low high k to.place to.child p set.way refl put.1, put.2))
+    (step.put.0, same_answered mid below page low high k to.place to.child p step.way refl step.put.1, step.put.2))
+
+pub returns-in-Err-put_below-clause-puts : goal.returns-in-Err-put_below-clause-puts
+returns-in-Err-put_below-clause-puts g t c told low high head lo hi lies chain =
+    let v = g.P.Pages.view in
+    let old = v c.args.pages.now in
+    let mid = v c.read_way.new.pages in
+    let reads = c.in-Ok.ensures.reads in
+    let same = reads.same (λ failed. failed) told in
+    let still : IsTrue mid.is_told = subst IsTrue (sym reads.counts.told) told in
+    let some = c.if-level-eq0.false in
+    let below = c.args.level - 1 in
+    let next : c.args.level ≡ suc below = omega arith in
+    let to = c.in-Ok.way in
+    let page = c.args.page in
+    let p : Pair = record { key = key_of c.args.key.now; value = c.args.value } in
+    let fault : Result Grown PageFault = Err c.in-Err-put_below.fault in
+    let step = step_in old mid (v c.put_below.new.pages) c.args.level below page low high (key_in c.read.result) to p fault fault same next head lo hi lies chain
+    c.read.ensures.is (c.in-Ok.ensures.leads told) refl (c.in-Err-put_below.ensures.puts still) in
+    damage_up old mid (v c.put_below.new.pages) c.args.level below page to.child low high step.way.way.at (next_key high step.way.way.ys) p c.in-Err-put_below.fault next same step.put
+
+pub returns-in-Err-clause-names : goal.returns-in-Err-clause-names
+returns-in-Err-clause-names g t c told =
+    let v = g.P.Pages.view in
+    let old = v c.args.pages.now in
+    let new = v c.read_way.new.pages in
+    let some = c.if-level-eq0.false in
+    let next : suc (c.args.level - 1) ≡ c.args.level = omega arith in
+    let result : Result Grown PageFault = Err c.in-Err.fault in
+    put_since old new c.args.level c.args.page result
+    (since_of old.page new.page c.args.level c.args.page result
+    (names_failed Way Grown old.page c.args.level c.args.page c.in-Err.fault
+    (subst (λ (l : ℕ). Names {T = Way} old.page l c.args.page (Err c.in-Err.fault)) next (c.in-Err.ensures.names told (c.args.level - 1)))))
+
+pub returns-in-Err-put_below-clause-names : goal.returns-in-Err-put_below-clause-names
+returns-in-Err-put_below-clause-names g t c told =
+    let v = g.P.Pages.view in
+    let old = v c.args.pages.now in
+    let mid = v c.read_way.new.pages in
+    let reads = c.in-Ok.ensures.reads in
+    let same = reads.same (λ failed. failed) told in
+    let still : IsTrue mid.is_told = subst IsTrue (sym reads.counts.told) told in
+    let some = c.if-level-eq0.false in
+    let below = c.args.level - 1 in
+    let next : c.args.level ≡ suc below = omega arith in
+    let result : Result Grown PageFault = Err c.in-Err-put_below.fault in
+    put_up old mid (v c.put_below.new.pages) c.args.level below c.args.page c.in-Ok.way.child result next same (c.in-Ok.ensures.child told) (c.in-Err-put_below.ensures.names still)
+
+pub returns-in-Ok-Split-clause-names : goal.returns-in-Ok-Split-clause-names
+returns-in-Ok-Split-clause-names g t c told =
+    let v = g.P.Pages.view in
+    let old = v c.args.pages.now in
+    let mid = v c.read_way.new.pages in
+    let reads = c.in-Ok.ensures.reads in
+    let same = reads.same (λ failed. failed) told in
+    let still : IsTrue mid.is_told = subst IsTrue (sym reads.counts.told) told in
+    let some = c.if-level-eq0.false in
+    let below = c.args.level - 1 in
+    let next : c.args.level ≡ suc below = omega arith in
+    let again : IsTrue (v c.put_below.new.pages).is_told = subst IsTrue (sym c.put_below.ensures.counts.told) still in
+    put_split old mid (v c.put_below.new.pages) (v c.add_entry.new.pages) c.args.level below c.args.page (c.in-Ok.way.place + 1) c.add_entry.result next same
+    (c.in-Ok-Split.ensures.rises still) (let b = c.in-Ok.ensures.place told in omega arith) (c.add_entry.ensures.names again)

@@ -10,6 +10,8 @@ use Rattle.gaz_tree.specs.Pairs.{Within, lookup, without}
 use Rattle.gaz_tree.specs.Tree.{IsHead}
 use Rattle.gaz_tree.specs.Put.{HasChain}
 use Rattle.gaz_tree.specs.Remove.{HasRemoved, IsCutAt}
+use Rattle.gaz_tree.specs.declared.shrunk.Shrunk.{Shrunk}
+use Rattle.gaz_tree.proofs.Named.{since_leaf, copy_fine}
 use Rattle.gaz_tree.proofs.Ways.{searched_none}
 use Rattle.gaz_tree.proofs.Answered.{chain_same}
 use Rattle.gaz_tree.proofs.Thinned.{leaf_removed}
@@ -107,3 +109,14 @@ returns-clause-removes g c told low high head lo hi chain =
           c.cut.ensures.form written),
       inl (let a = c.if-count-least.false in let b = c.least.ensures in let d = c.in-Ok.ensures.count in let e = c.cut.ensures.count in let f = ap count_of here in omega arith),
     )
+
+pub returns-in-Err-clause-fine : goal.returns-in-Err-clause-fine
+returns-in-Err-clause-fine g c told low high head =
+    let old = g.P.Pages.view c.args.pages.now in
+    copy_fine Leaf c.args.page (old.page c.args.page) old.is_told c.in-Err.fault told head.0 c.in-Err.ensures.unfit
+
+pub returns-in-Err-clause-names : goal.returns-in-Err-clause-names
+returns-in-Err-clause-names g c told =
+    let v = g.P.Pages.view in
+    let old = v c.args.pages.now in
+    since_leaf Shrunk old.page (v c.load.new.pages).page c.args.page old.is_told c.in-Err.fault told c.in-Err.ensures.unfit

@@ -5,4 +5,4 @@ use Rattle.gaz_row.proofs.AcceptedLemmas.{accepted}
 use Rattle.gaz_row.proofs.row.Row.latitude.Goals as goal
 
 pub unwrap-requires : goal.unwrap-requires
-unwrap-requires c = some_of c.read_degrees.result _ (c.read_degrees.ensures ∙ ap (degrees_in 90) c.text.ensures) (accepted _ c.self.invariant).latitude
+unwrap-requires c = some_of c.read_degrees.result _ (c.read_degrees.ensures ∙ ap (degrees_in 90) c.column_of.ensures) (accepted _ c.self.invariant).latitude

@@ -2,7 +2,13 @@ use Rattle.std.proofs.Common.{◌≡◌, ◌-◌, ◌^◌, ◌∙◌, ℕ, refl,
 use Rattle.gaz_leaf.specs.Node.{key_of, key_in}
 use Rattle.gaz_tree.specs.Tree.{IsHead, tree_pairs}
 use Rattle.gaz_tree.specs.Pairs.{lookup}
+use Rattle.std.proofs.Common.{suc}
+use Rattle.gaz_tree.specs.Calls.{NamesOf}
+use Rattle.std.specs.Prelude.{Result, Err, Option}
+use Rattle.gaz_page.specs.declared.pages.PageFault.{PageFault}
+use Rattle.gaz_page.specs.declared.pages.PageFault.TheVariants.{Damaged}
 use Rattle.gaz_tree.proofs.Gets.{got_same}
+use Rattle.gaz_tree.proofs.Named.{names_whole}
 use Rattle.gaz_tree.proofs.tree.Tree.get.Goals as goal
 
 pub returns-then-self-eq0-clause-got : goal.returns-then-self-eq0-clause-got
@@ -29,3 +35,14 @@ returns-clause-got g c told pairs top =
     got_same (lookup (key_of c.args.key.now) pairs) (lookup (key_in c.read.result) (tree_pairs pages (c.args.self.height - 1) c.args.self.top)) c.get_below.result
     (sym ((λ i. lookup (c.read.ensures.is i) (holds i))))
     (c.get_below.ensures.got told 0 (2 ^ 256) head (omega arith) c.read.ensures.fits)
+
+pub returns-then-self-eq0-clause-names : goal.returns-then-self-eq0-clause-names
+returns-then-self-eq0-clause-names g c told =
+    let damaged : Result (Option ℕ) PageFault = Err (Damaged c.args.self.top) in
+    subst (λ (h : ℕ). NamesOf (g.P.Pages.view c.args.pages.now).page h c.args.self.top damaged) (sym c.if-self-eq0.true) refl
+
+pub returns-clause-names : goal.returns-clause-names
+returns-clause-names g c told =
+    let some = c.if-self-eq0.false in
+    let tall : c.args.self.height ≡ suc (c.args.self.height - 1) = omega arith in
+    names_whole (g.P.Pages.view c.args.pages.now).page c.args.self.height (c.args.self.height - 1) c.args.self.top c.get_below.result tall (c.get_below.ensures.names told)

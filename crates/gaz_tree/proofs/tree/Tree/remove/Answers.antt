@@ -1,11 +1,23 @@
 use Rattle.std.proofs.Common.{◌≡◌, ◌-◌, ◌^◌, ◌∙◌, ℕ, List, sym, ap, subst, arith}
 use Rattle.std.specs.Prelude.{IsTrue, Ok}
-use Rattle.gaz_leaf.specs.Node.{count_of, key_of}
+use Rattle.gaz_leaf.specs.Node.{count_of, key_of, key_in}
 use Rattle.gaz_tree.specs.declared.shrunk.Shrunk.{Shrunk}
-use Rattle.gaz_tree.specs.Remove.{Removes, child_in}
+use Rattle.gaz_tree.specs.declared.shrunk.Shrunk.TheVariants.{Absent, Fine, Low}
+use Rattle.gaz_tree.specs.Remove.{child_in}
 use Rattle.gaz_tree.proofs.Roots.{at_level}
 use Rattle.gaz_tree.proofs.Removes.{removed_then}
-use Rattle.gaz_tree.proofs.Lowered.{without_absent, without_fine, without_kept, leaf_two, other_two, lowered}
+use Rattle.gaz_tree.proofs.Lowered.{below_removed, without_absent, without_fine, without_kept, leaf_two, other_two, lowered}
+use Rattle.std.proofs.Common.{suc, refl}
+use Rattle.std.specs.Prelude.{Result, Err, Bool}
+use Rattle.gaz_page.specs.declared.pages.PageFault.{PageFault}
+use Rattle.gaz_page.specs.declared.pages.PageFault.TheVariants.{Damaged}
+use Rattle.gaz_leaf.specs.declared.kind.Kind.{Kind}
+use Rattle.gaz_leaf.specs.declared.kind.Kind.TheVariants.{Inner}
+use Rattle.gaz_leaf.specs.Node.{IsForm}
+use Rattle.gaz_tree.specs.Tree.{kind_at}
+use Rattle.gaz_tree.specs.Calls.{NamesSinceOf}
+use Rattle.gaz_tree.proofs.Changed.{head_form}
+use Rattle.gaz_tree.proofs.Named.{since_whole, since_failed, since_top, since_fine, copy_fine, read_same}
 use Rattle.gaz_tree.proofs.tree.Tree.remove.Goals as goal
 
 pub returns-in-Ok-Absent-clause-removed : goal.returns-in-Ok-Absent-clause-removed
@@ -15,10 +27,8 @@ returns-in-Ok-Absent-clause-removed g c told pairs s =
     let mid = v c.remove_below.new.pages in
     let tree = c.args.self.now in
     let key = key_of c.args.key.now in
-    let a = at_level old tree pairs s in
-    let removed = subst (λ (f : Shrunk). Removes old mid (tree.height - 1) tree.top 0 (2 ^ 256) key (Ok f)) c.in-Ok-Absent.field-0-is
-    (subst (λ (k : ℕ). Removes old mid (tree.height - 1) tree.top 0 (2 ^ 256) k (Ok c.in-Ok-Absent.field-0)) c.read.ensures.is
-    (c.in-Ok-Absent.ensures.removes told 0 (2 ^ 256) a.head (omega arith) c.read.ensures.fits a.lies a.chain)) in
+    let removed = below_removed old mid tree key (key_in c.read.result) pairs (Ok c.in-Ok-Absent.field-0) (Ok Absent) s c.read.ensures.is c.read.ensures.fits (ap (λ (f : Shrunk). Ok f) c.in-Ok-Absent.field-0-is)
+    (c.in-Ok-Absent.ensures.removes told) in
     without_absent old mid tree key pairs s removed
 
 pub returns-in-Ok-Fine-clause-removed : goal.returns-in-Ok-Fine-clause-removed
@@ -28,10 +38,8 @@ returns-in-Ok-Fine-clause-removed g c told pairs s =
     let mid = v c.remove_below.new.pages in
     let tree = c.args.self.now in
     let key = key_of c.args.key.now in
-    let a = at_level old tree pairs s in
-    let removed = subst (λ (f : Shrunk). Removes old mid (tree.height - 1) tree.top 0 (2 ^ 256) key (Ok f)) c.in-Ok-Fine.field-0-is
-    (subst (λ (k : ℕ). Removes old mid (tree.height - 1) tree.top 0 (2 ^ 256) k (Ok c.in-Ok-Fine.field-0)) c.read.ensures.is
-    (c.in-Ok-Fine.ensures.removes told 0 (2 ^ 256) a.head (omega arith) c.read.ensures.fits a.lies a.chain)) in
+    let removed = below_removed old mid tree key (key_in c.read.result) pairs (Ok c.in-Ok-Fine.field-0) (Ok Fine) s c.read.ensures.is c.read.ensures.fits (ap (λ (f : Shrunk). Ok f) c.in-Ok-Fine.field-0-is)
+    (c.in-Ok-Fine.ensures.removes told) in
     without_fine old mid tree key pairs s removed
 
 pub returns-then-self-eq1-clause-removed : goal.returns-then-self-eq1-clause-removed
@@ -41,10 +49,8 @@ returns-then-self-eq1-clause-removed g c told pairs s =
     let mid = v c.remove_below.new.pages in
     let tree = c.args.self.now in
     let key = key_of c.args.key.now in
-    let a = at_level old tree pairs s in
-    let removed = subst (λ (f : Shrunk). Removes old mid (tree.height - 1) tree.top 0 (2 ^ 256) key (Ok f)) c.in-Ok-Low.field-0-is
-    (subst (λ (k : ℕ). Removes old mid (tree.height - 1) tree.top 0 (2 ^ 256) k (Ok c.in-Ok-Low.field-0)) c.read.ensures.is
-    (c.in-Ok-Low.ensures.removes told 0 (2 ^ 256) a.head (omega arith) c.read.ensures.fits a.lies a.chain)) in
+    let removed = below_removed old mid tree key (key_in c.read.result) pairs (Ok c.in-Ok-Low.field-0) (Ok Low) s c.read.ensures.is c.read.ensures.fits (ap (λ (f : Shrunk). Ok f) c.in-Ok-Low.field-0-is)
+    (c.in-Ok-Low.ensures.removes told) in
     let one = c.if-self-eq1.true in
     without_kept old mid tree key pairs s removed (leaf_two mid (tree.height - 1) tree.top (omega arith))
 
@@ -55,10 +61,8 @@ returns-then-count-ne1-clause-removed g c told pairs s =
     let mid = v c.remove_below.new.pages in
     let tree = c.args.self.now in
     let key = key_of c.args.key.now in
-    let a = at_level old tree pairs s in
-    let removed = subst (λ (f : Shrunk). Removes old mid (tree.height - 1) tree.top 0 (2 ^ 256) key (Ok f)) c.in-Ok-Low.field-0-is
-    (subst (λ (k : ℕ). Removes old mid (tree.height - 1) tree.top 0 (2 ^ 256) k (Ok c.in-Ok-Low.field-0)) c.read.ensures.is
-    (c.in-Ok-Low.ensures.removes told 0 (2 ^ 256) a.head (omega arith) c.read.ensures.fits a.lies a.chain)) in
+    let removed = below_removed old mid tree key (key_in c.read.result) pairs (Ok c.in-Ok-Low.field-0) (Ok Low) s c.read.ensures.is c.read.ensures.fits (ap (λ (f : Shrunk). Ok f) c.in-Ok-Low.field-0-is)
+    (c.in-Ok-Low.ensures.removes told) in
     let reads = c.in-Ok.ensures.reads in
     let still : IsTrue mid.is_told = subst IsTrue (sym c.remove_below.ensures.counts.told) told in
     let same = reads.same (λ failed. failed) still in
@@ -75,10 +79,8 @@ returns-clause-removed g c told pairs s =
     let mid = v c.remove_below.new.pages in
     let tree = c.args.self.now in
     let key = key_of c.args.key.now in
-    let a = at_level old tree pairs s in
-    let removed = subst (λ (f : Shrunk). Removes old mid (tree.height - 1) tree.top 0 (2 ^ 256) key (Ok f)) c.in-Ok-Low.field-0-is
-    (subst (λ (k : ℕ). Removes old mid (tree.height - 1) tree.top 0 (2 ^ 256) k (Ok c.in-Ok-Low.field-0)) c.read.ensures.is
-    (c.in-Ok-Low.ensures.removes told 0 (2 ^ 256) a.head (omega arith) c.read.ensures.fits a.lies a.chain)) in
+    let removed = below_removed old mid tree key (key_in c.read.result) pairs (Ok c.in-Ok-Low.field-0) (Ok Low) s c.read.ensures.is c.read.ensures.fits (ap (λ (f : Shrunk). Ok f) c.in-Ok-Low.field-0-is)
+    (c.in-Ok-Low.ensures.removes told) in
     let reads = c.in-Ok.ensures.reads in
     let still : IsTrue mid.is_told = subst IsTrue (sym c.remove_below.ensures.counts.told) told in
     let same = reads.same (λ failed. failed) still in
@@ -90,3 +92,65 @@ returns-clause-removed g c told pairs s =
     let one = c.if-count-ne1.false in
     lowered old last (v c.give.new.self) tree c.child_at-self.result key pairs c.if-self-eq1.false s then (sym count ∙ one)
     (c.child_at-self.ensures ∙ ap (λ (l : List ℕ). child_in l 0) bytes) (c.in-Ok-give.ensures.given again)
+
+pub returns-then-self-eq0-clause-damaged : goal.returns-then-self-eq0-clause-damaged
+returns-then-self-eq0-clause-damaged g c told pairs s = let tall = s.top.tall in let none = c.if-self-eq0.true in absurd (omega arith)
+
+pub returns-in-Err-clause-damaged : goal.returns-in-Err-clause-damaged
+returns-in-Err-clause-damaged g c told pairs s =
+    let a = at_level (g.P.Pages.view c.args.pages.now) c.args.self.now pairs s in
+    c.in-Err.ensures.fine told 0 (2 ^ 256) a.head a.two (omega arith) c.read.ensures.fits a.lies a.chain
+
+pub returns-in-Err-load-clause-damaged : goal.returns-in-Err-load-clause-damaged
+returns-in-Err-load-clause-damaged g c told pairs s =
+    let v = g.P.Pages.view in
+    let old = v c.args.pages.now in
+    let mid = v c.remove_below.new.pages in
+    let tree = c.args.self.now in
+    let key = key_of c.args.key.now in
+    let removed = below_removed old mid tree key (key_in c.read.result) pairs (Ok c.in-Ok-Low.field-0) (Ok Low) s c.read.ensures.is c.read.ensures.fits (ap (λ (f : Shrunk). Ok f) c.in-Ok-Low.field-0-is)
+    (c.in-Ok-Low.ensures.removes told) in
+    let still : IsTrue mid.is_told = subst IsTrue (sym c.remove_below.ensures.counts.told) told in
+    let tall = s.top.tall in
+    let more = c.if-self-eq1.false in
+    let level : tree.height - 1 ≡ suc (tree.height - 2) = omega arith in
+    let form = subst (λ (k : Kind). IsForm k tree.top (mid.page tree.top)) (ap kind_at level) (head_form mid.page (tree.height - 1) tree.top 0 (2 ^ 256) removed.head) in
+    copy_fine Inner tree.top (mid.page tree.top) mid.is_told c.in-Err-load.fault still form c.in-Err-load.ensures.unfit
+
+pub returns-then-self-eq0-clause-names : goal.returns-then-self-eq0-clause-names
+returns-then-self-eq0-clause-names g c told =
+    let pages = (g.P.Pages.view c.args.pages.now).page in
+    let damaged : Result Bool PageFault = Err (Damaged c.args.self.now.top) in
+    subst (λ (h : ℕ). NamesSinceOf pages pages h c.args.self.now.top damaged) (sym c.if-self-eq0.true) refl
+
+pub returns-in-Err-clause-names : goal.returns-in-Err-clause-names
+returns-in-Err-clause-names g c told =
+    let v = g.P.Pages.view in
+    let old = (v c.args.pages.now).page in
+    let new = (v c.remove_below.new.pages).page in
+    let tree = c.args.self.now in
+    let some = c.if-self-eq0.false in
+    let tall : tree.height ≡ suc (tree.height - 1) = omega arith in
+    let result : Result Bool PageFault = Err c.in-Err.fault in
+    since_whole old new tree.height (tree.height - 1) tree.top result tall (since_failed Shrunk Bool old new (tree.height - 1) tree.top c.in-Err.fault (c.in-Err.ensures.names told))
+
+pub returns-in-Err-load-clause-names : goal.returns-in-Err-load-clause-names
+returns-in-Err-load-clause-names g c told =
+    let v = g.P.Pages.view in
+    let mid = v c.remove_below.new.pages in
+    let new = v c.load.new.pages in
+    let tree = c.args.self.now in
+    let still : IsTrue mid.is_told = subst IsTrue (sym c.remove_below.ensures.counts.told) told in
+    let some = c.if-self-eq0.false in
+    let more = c.if-self-eq1.false in
+    let tall : tree.height ≡ suc (suc (tree.height - 2)) = omega arith in
+    since_top Bool (v c.args.pages.now).page mid.page new.page tree.height (tree.height - 2) tree.top mid.is_told c.in-Err-load.fault tall
+    (read_same 1 mid new c.in-Err-load.fault c.in-Err-load.ensures.reads still) still c.in-Err-load.ensures.unfit
+
+pub returns-in-Err-give-clause-names : goal.returns-in-Err-give-clause-names
+returns-in-Err-give-clause-names g c told =
+    let v = g.P.Pages.view in
+    let tree = c.args.self.now in
+    let some = c.if-self-eq0.false in
+    let tall : tree.height ≡ suc (tree.height - 1) = omega arith in
+    since_fine Bool (v c.args.pages.now).page (v c.give.new.self).page tree.height (tree.height - 1) tree.top c.in-Err-give.fault tall c.in-Err-give.ensures.fault
