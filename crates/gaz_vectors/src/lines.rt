@@ -1,6 +1,6 @@
 //! Lines of the export, and requests.
-use gaz_num::{count_fields, field, read_count};
 use gaz_alt::{Alt, check_alt, check_delete};
+use gaz_num::{count_fields, field, read_count};
 use gaz_row::{Row, check_row};
 use gaz_words::{Request, read_request};
 use std::io;
