@@ -6,12 +6,13 @@ use Rattle.std.specs.Fmt.{digits}
 use lib.Utf8.{encode}
 use Rattle.gaz_num.specs.Check.{reason_against}
 use Rattle.gaz_num.specs.Refusal.{not_loaded, sequence, absent, malformed}
-use Rattle.gaz_num.specs.declared.words.Kind.TheVariants.{Row, RowDelete}
+use Rattle.gaz_num.specs.declared.words.Kind.TheVariants.{Row, RowDelete, Alt, AltDelete}
 use Rattle.gaz_num.specs.declared.words.Table.TheVariants as table
 use Rattle.gaz_num.specs.declared.words.FileName.TheVariants as file
 use Rattle.gaz_num.specs.declared.words.Reason.TheVariants as reason
 use Rattle.gaz_plain.specs.Gazetteer.{Gazetteer, empty, dated, step, line_with, after_line}
 use Rattle.gaz_plain.specs.Fold.{part}
+use Rattle.gaz_plain.specs.Names.{names_of}
 use Rattle.gaz_plain.specs.Load.{Files, load, day}
 
 -- a row of an id, a name and a population
@@ -154,3 +155,36 @@ changed_and_deleted = refl
 bad_delete : day (gazetteer 5 (a1 ∷ [])) (changed_by (b2 ++ codes "\n") (codes "1\nx")) 6 ≡ Err (malformed (file.Deletes 6) 2 reason.Id)
 unfolding day after_line reason_against is_utf8 chars encode digits
 bad_delete = refl
+
+-- ---- alternate names
+
+-- a German name of the place 1, and a link of it
+abbrev german : List ℕ
+german = codes "7\t1\tde\tAh"
+
+abbrev link : List ℕ
+link = codes "8\t1\tlink\thttps://a.example\t\t\t\t\t\t"
+
+abbrev named : Gazetteer
+named = record (gazetteer 5 (a1 ∷ b2 ∷ [])) { alternates = german ∷ link ∷ [] }
+
+alternate_put : step (record (gazetteer 5 (a1 ∷ b2 ∷ [])) { alternates = link ∷ [] }) Alt german ≡ named
+alternate_put = refl
+
+-- a deleted place leaves its alternates
+place_gone : step named RowDelete (codes "1") ≡ record (gazetteer 5 (b2 ∷ [])) { alternates = german ∷ link ∷ [] }
+place_gone = refl
+
+alternate_gone : step named AltDelete (codes "7\tAh") ≡ record (gazetteer 5 (a1 ∷ b2 ∷ [])) { alternates = link ∷ [] }
+alternate_gone = refl
+
+-- a link is no name
+names_of_all : names_of named None a1 ≡ codes "A" ∷ [] ∷ codes "Ah" ∷ []
+names_of_all = refl
+
+-- but one of the language `link` where that is asked for
+names_of_one : names_of named (Some (codes "link")) a1 ≡ codes "https://a.example" ∷ []
+names_of_one = refl
+
+names_of_another : names_of named None b2 ≡ codes "B" ∷ [] ∷ []
+names_of_another = refl
