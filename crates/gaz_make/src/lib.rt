@@ -1,0 +1,13 @@
+//! The made table: as many geoname rows as are asked for, without a download, and the files of a load and of a day over it.
+//! Its rows follow from a start by the generator of Park and Miller: the same start makes the same bytes everywhere.
+//! `make` prints the table and takes no memory, and fails only where the station did. `made_shelf` has it as a file, with
+//! a day that changes and deletes some of its rows, for the requests that `made_requests` tells.
+#![tactic(auto)]
+
+mod chunk;
+mod files;
+mod print;
+mod rows;
+
+pub use files::{made_requests, made_shelf};
+pub use print::make;
