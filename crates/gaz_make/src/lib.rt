@@ -8,6 +8,8 @@ mod chunk;
 mod files;
 mod print;
 mod rows;
+mod still_shelf;
 
 pub use files::{made_requests, made_shelf};
 pub use print::make;
+pub use still_shelf::StillShelf;
