@@ -1,9 +1,9 @@
-//! The files and the requests of a trial.
+//! The files of a trial.
 ghost use Rattle.std.specs.Prelude.{◌≡◌, ◌≤◌, ◌∷◌, ◌++◌, [], ℕ, None, IsTrue, IfOk, OnOk};
 ghost use Rattle.gaz_outside.specs.Listed.{file_named, listed};
 ghost use Rattle.gaz_outside.specs.Memory.{failing_reads, listed_files, later_files, reads_made};
 ghost use Rattle.gaz_make.specs.Chunk.{text_of};
-ghost use Rattle.gaz_make.specs.Files.{request_text, changed_lines, delete_lines, load_files, day_files, made_files};
+ghost use Rattle.gaz_make.specs.Files.{changed_lines, delete_lines, load_files, day_files, made_files};
 ghost use Rattle.gaz_make.specs.Made.{lined, made_table};
 
 use crate::chunk::Chunk;
@@ -13,13 +13,6 @@ use std::alloc::{AllocError, Global};
 
 /// A list of names and bytes.
 type Files = Vec<(String, Vec<u8>)>;
-
-/// The requests of a trial, each with an LF.
-pub fn made_requests() -> &'static [u8]
-    ensures { result.now ≡ request_text }
-{
-    b"load 2000-01-01\nday 2000-01-02\nsearch maxRows=3\n"
-}
 
 /// The table.
 fn table(alloc: Global, start: u64, rows: u32) -> Result<Vec<u8>, AllocError>
