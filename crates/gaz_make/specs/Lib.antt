@@ -1,0 +1,4 @@
+pub mod Chunk
+pub mod Files
+pub mod Made
+pub mod Row
