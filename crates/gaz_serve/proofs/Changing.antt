@@ -8,7 +8,7 @@ use Rattle.gaz_num.specs.Words.{file_text}
 use Rattle.gaz_plain.specs.Gazetteer.{Gazetteer}
 use Rattle.gaz_plain.specs.Fold.{fold}
 use Rattle.gaz_plain.specs.Load.{Files, load_files}
-use Rattle.gaz_words.specs.Grammar.{RequestAsked, asks_load, asks_day, asks_get, asks_search}
+use Rattle.gaz_words.specs.Grammar.{RequestAsked, asks_load, asks_day, asks_get, asks_search, asks_children, asks_chain, asks_admin}
 use Rattle.gaz_words.specs.declared.request.BadRequest.{BadRequest}
 use Rattle.gaz_turns.specs.Turns.{State, ReadsFiles, opens}
 use Rattle.gaz_serve.specs.declared.change.ChangeFault.{ChangeFault}
@@ -144,4 +144,7 @@ request_found state (Ok (asks_load date)) old new told closes = ⊎_elim (λ sam
 request_found state (Ok (asks_day date)) old new told closes = ⊎_elim (λ same. inl same) (λ other. inr (tt, other)) (closes_found (opens state (Ok (asks_day date))) old new told closes)
 request_found state (Ok (asks_get id)) old new told closes = inl (told_files old new told closes.1.told closes.1.files, closes.1.earlier)
 request_found state (Ok (asks_search asked)) old new told closes = inl (told_files old new told closes.1.told closes.1.files, closes.1.earlier)
+request_found state (Ok (asks_children id max)) old new told closes = inl (told_files old new told closes.1.told closes.1.files, closes.1.earlier)
+request_found state (Ok (asks_chain id)) old new told closes = inl (told_files old new told closes.1.told closes.1.files, closes.1.earlier)
+request_found state (Ok (asks_admin code)) old new told closes = inl (told_files old new told closes.1.told closes.1.files, closes.1.earlier)
 request_found state (Err bad) old new told closes = inl (told_files old new told closes.1.told closes.1.files, closes.1.earlier)

@@ -2,17 +2,17 @@
 use Rattle.std.specs.Prelude.{◌≡◌, ◌⊎◌, ℕ, ◌+◌, List, [], ◌∷◌, ◌++◌, length, Result}
 use Rattle.gaz_outside.specs.Outside.{StationView}
 use Rattle.gaz_num.specs.Refusal.{memory}
-use Rattle.gaz_pick.specs.Order.{Pair}
 use Rattle.gaz_pick.specs.Asked.{Asked}
 use Rattle.gaz_plain.specs.Gazetteer.{Gazetteer}
-use Rattle.gaz_plain.specs.Search.{rows_at, search_of}
+use Rattle.gaz_plain.specs.Search.{search_of}
+use Rattle.gaz_plain.specs.Kin.{rows_with}
 use Rattle.gaz_reply.specs.Reply.{Reply, rows, refused, with_ends, end_line}
 use Rattle.gaz_turns.specs.Turns.{AsksName}
 use Rattle.gaz_serve.specs.Step.{Replies}
 
--- the rows of pairs, behind so many that were printed before, and the number of all
-abbrev pub rest_text : Gazetteer → List Pair → ℕ → List ℕ
-rest_text gaz pairs before = with_ends (rows_at gaz pairs ++ end_line (before + length (rows_at gaz pairs)) ∷ [])
+-- the rows with these ids, behind so many that were printed before, and the number of all
+abbrev pub rest_text : Gazetteer → List ℕ → ℕ → List ℕ
+rest_text gaz ids before = with_ends (rows_with gaz ids ++ end_line (before + length (rows_with gaz ids)) ∷ [])
 
 -- The reply tells the answer, or that memory was wanting, which may be only where a name is asked for.
 abbrev pub IsSearchReply : Gazetteer → Asked → Reply → Type 0

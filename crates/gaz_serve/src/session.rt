@@ -1,11 +1,12 @@
 //! A session: the gazetteer of an open mirror, the side of its text, the buffer by which files are read, and the room for answers.
-ghost use Rattle.std.specs.Prelude.{◌≡◌, ◌⊎◌, ◌∷◌, [], Ok, None, IsTrue, IfOk, IfErr, IfSome, IsSome, OnOk, option_to_list};
+ghost use Rattle.std.specs.Prelude.{◌≡◌, ◌≤◌, ◌⊎◌, ◌∷◌, [], Ok, None, ◌&&◌, is_some, IsTrue, IfOk, IfErr, IfSome, IsSome, OnOk, option_to_list};
 ghost use Rattle.gaz_outside.specs.Outside.{files_of};
 ghost use Rattle.gaz_num.specs.Refusal.{memory};
-ghost use Rattle.gaz_num.specs.declared.words.Table.TheVariants.{Rows};
+ghost use Rattle.gaz_num.specs.declared.words.Table.TheVariants.{Rows, Codes};
 ghost use Rattle.gaz_plain.specs.Gazetteer.{Gazetteer, line_with};
 ghost use Rattle.gaz_pick.specs.Asked.{asked};
 ghost use Rattle.gaz_plain.specs.Search.{search_of};
+ghost use Rattle.gaz_plain.specs.Kin.{children_of, hierarchy_of};
 ghost use Rattle.gaz_words.specs.Grammar.{IsLimited};
 ghost use Rattle.gaz_plain.specs.Load.{load, day, load_files, in_sequence};
 ghost use Rattle.gaz_open.specs.Content.{Mirrors};
@@ -20,7 +21,7 @@ ghost use Rattle.gaz_serve.specs.Session.{IsOpen, state_of};
 ghost use Rattle.gaz_serve.specs.Step.{Finishes, Reports};
 
 use crate::change::{ChangeFault, follow, loaded, next_gazetteer};
-use crate::tell::{tell_answer, tell_found};
+use crate::tell::{tell_answer, tell_chain, tell_children, tell_found};
 use gaz_lines::LineCutter;
 use gaz_num::Day;
 use gaz_open::{OpenFault, open_plain};
@@ -95,6 +96,13 @@ impl Session {
             }),
             Err(fault) => Err(fault),
         }
+    }
+
+    /// Whether a load was accepted before, where that is asked.
+    pub(crate) fn is_in_the_way(&self, only_empty: bool) -> bool
+        ensures { result ≡ (only_empty && is_some self.now.lines.date) }
+    {
+        only_empty && self.gaz.date().is_some()
     }
 
     /// What a load makes. Its file is closed again.
@@ -208,6 +216,49 @@ impl Session {
         match self.gaz.date() {
             None => write_refusal(station, &Refusal::NotLoaded),
             Some(_) => tell_answer(station, &self.gaz, &mut self.best, query),
+        }
+    }
+
+    /// Tells the first children of the place with the id.
+    pub(crate) fn tell_children<T: Station>(
+        &mut self,
+        station: &mut T,
+        id: u32,
+        max: u32,
+    ) -> Result<(), Failed>
+        requires { max ≤ 1000 }
+        ensures given { IsGiven (same_state (state_of self.old) (if_loaded (state_of self.old) (rows (children_of self.old.lines id max)))) (state_of self.old) (T.view station.old) (T.view station.new) result }
+        ensures kept { self.new ≡ self.old }
+        ensures open { IsOpen self.old (T.view station.old) → IsOpen self.new (T.view station.new) }
+        ensures reports { Reports (T.view station.old) (T.view station.new) result }
+    {
+        match self.gaz.date() {
+            None => write_refusal(station, &Refusal::NotLoaded),
+            Some(_) => tell_children(station, &self.gaz, &mut self.best, id, max),
+        }
+    }
+
+    /// Tells the chain of the place with the id, from the top down.
+    pub(crate) fn tell_chain<T: Station>(&self, station: &mut T, id: u32) -> Result<(), Failed>
+        ensures given { IsGiven (same_state (state_of self.now) (if_loaded (state_of self.now) (rows (hierarchy_of self.now.lines id)))) (state_of self.now) (T.view station.old) (T.view station.new) result }
+        ensures open { IsOpen self.now (T.view station.old) → IsOpen self.now (T.view station.new) }
+        ensures reports { Reports (T.view station.old) (T.view station.new) result }
+    {
+        match self.gaz.date() {
+            None => write_refusal(station, &Refusal::NotLoaded),
+            Some(_) => tell_chain(station, &self.gaz, id),
+        }
+    }
+
+    /// Tells the line of an admin code, if there is one.
+    pub(crate) fn tell_code<T: Station>(&self, station: &mut T, code: &str) -> Result<(), Failed>
+        ensures given { IsGiven (same_state (state_of self.now) (if_loaded (state_of self.now) (rows (option_to_list (line_with Codes code.now self.now.lines))))) (state_of self.now) (T.view station.old) (T.view station.new) result }
+        ensures open { IsOpen self.now (T.view station.old) → IsOpen self.now (T.view station.new) }
+        ensures reports { Reports (T.view station.old) (T.view station.new) result }
+    {
+        match self.gaz.date() {
+            None => write_refusal(station, &Refusal::NotLoaded),
+            Some(_) => tell_found(station, self.gaz.admin(code.as_bytes())),
         }
     }
 }

@@ -47,6 +47,9 @@ fn answer_request<F: Shelf, T: Station>(
         }
         Request::Get(id) => session.tell_place(station, *id),
         Request::Search(query) => session.tell_search(station, query),
+        Request::Children(id, max) => session.tell_children(station, *id, *max),
+        Request::Hierarchy(id) => session.tell_chain(station, *id),
+        Request::Admin(code) => session.tell_code(station, code),
     }
 }
 

@@ -53,3 +53,15 @@ returns-in-Search-clause-step g c =
 pub returns-in-Search-clause-tells : goal.returns-in-Search-clause-tells
 returns-in-Search-clause-tells g c =
     search_tells (asked c.in-Search.query) (state_of c.args.session.now) (g.F.Shelf.view c.args.shelf.now) (g.T.Station.view c.args.station.now) (g.T.Station.view c.tell_search.new.station) c.tell_search.result c.tell_search.ensures.given
+
+pub returns-in-Children-clause-tells : goal.returns-in-Children-clause-tells
+returns-in-Children-clause-tells g c =
+    get_tells (state_of c.args.session.now) _ (g.F.Shelf.view c.args.shelf.now) (g.T.Station.view c.args.station.now) (g.T.Station.view c.tell_children.new.station) c.tell_children.result c.tell_children.ensures.given
+
+pub returns-in-Hierarchy-clause-tells : goal.returns-in-Hierarchy-clause-tells
+returns-in-Hierarchy-clause-tells g c =
+    get_tells (state_of c.args.session.now) _ (g.F.Shelf.view c.args.shelf.now) (g.T.Station.view c.args.station.now) (g.T.Station.view c.tell_chain.new.station) c.tell_chain.result c.tell_chain.ensures.given
+
+pub returns-in-Admin-clause-tells : goal.returns-in-Admin-clause-tells
+returns-in-Admin-clause-tells g c =
+    get_tells (state_of c.args.session.now) _ (g.F.Shelf.view c.args.shelf.now) (g.T.Station.view c.args.station.now) (g.T.Station.view c.tell_code.new.station) c.tell_code.result c.tell_code.ensures.given

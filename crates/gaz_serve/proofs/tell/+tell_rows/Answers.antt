@@ -1,4 +1,4 @@
-use Rattle.std.proofs.Common.{◌+◌, ◌-◌, [], ◌∷◌, length, take, drop, ap, sym, subst, ◌∙◌}
+use Rattle.std.proofs.Common.{◌+◌, ◌-◌, [], ◌∷◌, length, map, take, drop, ap, sym, subst, ◌∙◌}
 use Rattle.std.specs.Prelude.{option_copied}
 use Rattle.gaz_outside.specs.Outside.{PrintsFront}
 use Rattle.gaz_outside.proofs.Runs.{areas_stay_on}
@@ -11,17 +11,19 @@ use Rattle.gaz_serve.proofs.tell.+tell_rows.Goals as goal
 
 pub returns-in-Ok-clause-printed : goal.returns-in-Ok-clause-printed
 returns-in-Ok-clause-printed g t c =
-    let pairs = c.args.pairs.now in
+    let names = g.I.OfRow.names in
+    let all = c.args.rows.now in
     same_print _ _ _ _ c.tell_rows.result
-    (row_first c.args.gaz.now pairs c.in-Some.line.now c.args.told c.in-len1-up.len_at_least (ap option_copied (sym c.in-Some.is) ∙ c.get.ensures))
-    (both (with_ends (c.in-Some.line.now ∷ [])) (rest_text c.args.gaz.now (take (length pairs - 1) (drop 1 pairs)) (c.args.told + 1)) _ _ _ c.tell_rows.result c.in-Ok.ensures.printed c.tell_rows.ensures.printed)
+    (row_first c.args.gaz.now names all _ c.in-Some.line.now c.args.told c.in-len1-up.len_at_least (ap option_copied (sym c.in-Some.is) ∙ c.get.ensures))
+    (both (with_ends (c.in-Some.line.now ∷ [])) (rest_text c.args.gaz.now (map names (take (length all - 1) (drop 1 all))) (c.args.told + 1)) _ _ _ c.tell_rows.result c.in-Ok.ensures.printed c.tell_rows.ensures.printed)
 
 pub returns-in-Ok-clause-moments : goal.returns-in-Ok-clause-moments
 returns-in-Ok-clause-moments g t c =
-    let pairs = c.args.pairs.now in
+    let names = g.I.OfRow.names in
+    let all = c.args.rows.now in
     same_cut _ _ _ _
-    (row_first c.args.gaz.now pairs c.in-Some.line.now c.args.told c.in-len1-up.len_at_least (ap option_copied (sym c.in-Some.is) ∙ c.get.ensures))
-    (cut_in_both (with_ends (c.in-Some.line.now ∷ [])) (rest_text c.args.gaz.now (take (length pairs - 1) (drop 1 pairs)) (c.args.told + 1)) _ _ _ c.in-Ok.ensures.told c.in-Ok.ensures.areas c.in-Ok.ensures.printed c.in-Ok.ensures.moments c.tell_rows.ensures.moments)
+    (row_first c.args.gaz.now names all _ c.in-Some.line.now c.args.told c.in-len1-up.len_at_least (ap option_copied (sym c.in-Some.is) ∙ c.get.ensures))
+    (cut_in_both (with_ends (c.in-Some.line.now ∷ [])) (rest_text c.args.gaz.now (map names (take (length all - 1) (drop 1 all))) (c.args.told + 1)) _ _ _ c.in-Ok.ensures.told c.in-Ok.ensures.areas c.in-Ok.ensures.printed c.in-Ok.ensures.moments c.tell_rows.ensures.moments)
 
 pub returns-in-Ok-clause-areas : goal.returns-in-Ok-clause-areas
 returns-in-Ok-clause-areas g t c =
@@ -30,14 +32,16 @@ returns-in-Ok-clause-areas g t c =
 
 pub returns-in-Err-clause-printed : goal.returns-in-Err-clause-printed
 returns-in-Err-clause-printed g t c =
-    let pairs = c.args.pairs.now in
+    let names = g.I.OfRow.names in
+    let all = c.args.rows.now in
     subst (λ text. PrintsFront text (g.T.Station.view c.args.station.now) (g.T.Station.view c.write_row.new.station))
-    (row_first c.args.gaz.now pairs c.in-Some.line.now c.args.told c.in-len1-up.len_at_least (ap option_copied (sym c.in-Some.is) ∙ c.get.ensures))
-    (front (with_ends (c.in-Some.line.now ∷ [])) (rest_text c.args.gaz.now (take (length pairs - 1) (drop 1 pairs)) (c.args.told + 1)) _ _ c.in-Err.ensures.printed)
+    (row_first c.args.gaz.now names all _ c.in-Some.line.now c.args.told c.in-len1-up.len_at_least (ap option_copied (sym c.in-Some.is) ∙ c.get.ensures))
+    (front (with_ends (c.in-Some.line.now ∷ [])) (rest_text c.args.gaz.now (map names (take (length all - 1) (drop 1 all))) (c.args.told + 1)) _ _ c.in-Err.ensures.printed)
 
 pub returns-in-Err-clause-moments : goal.returns-in-Err-clause-moments
 returns-in-Err-clause-moments g t c =
-    let pairs = c.args.pairs.now in
+    let names = g.I.OfRow.names in
+    let all = c.args.rows.now in
     same_cut _ _ _ _
-    (row_first c.args.gaz.now pairs c.in-Some.line.now c.args.told c.in-len1-up.len_at_least (ap option_copied (sym c.in-Some.is) ∙ c.get.ensures))
-    (cut_in_first (with_ends (c.in-Some.line.now ∷ [])) (rest_text c.args.gaz.now (take (length pairs - 1) (drop 1 pairs)) (c.args.told + 1)) _ _ c.in-Err.ensures.moments)
+    (row_first c.args.gaz.now names all _ c.in-Some.line.now c.args.told c.in-len1-up.len_at_least (ap option_copied (sym c.in-Some.is) ∙ c.get.ensures))
+    (cut_in_first (with_ends (c.in-Some.line.now ∷ [])) (rest_text c.args.gaz.now (map names (take (length all - 1) (drop 1 all))) (c.args.told + 1)) _ _ c.in-Err.ensures.moments)
