@@ -11,4 +11,5 @@ pub mod Faults
 pub mod Names
 pub mod Placed
 pub mod Search
+pub mod Kin
 pub mod Wanted
