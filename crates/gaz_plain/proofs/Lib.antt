@@ -16,3 +16,7 @@ pub mod Offered
 pub mod Selected
 pub mod PlacedLemmas
 pub mod PlacedNames
+pub mod Foremost
+pub mod Climbed
+pub mod Named
+pub mod Upwards

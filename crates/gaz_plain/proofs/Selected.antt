@@ -10,12 +10,12 @@ use Rattle.gaz_num.specs.declared.words.Table.TheVariants.{Rows}
 use Rattle.gaz_num.specs.Numbers.{id_in}
 use Rattle.gaz_num.specs.Pieces.{column}
 use Rattle.gaz_row.proofs.AcceptedLemmas.{accepted}
-use Rattle.gaz_pick.specs.Order.{Pair, is_same, holds, in_order}
+use Rattle.gaz_pick.specs.Order.{Pair, is_same, holds, in_order, cut}
 use Rattle.gaz_pick.specs.Asked.{Asked}
 use Rattle.gaz_pick.specs.Match.{id_of, pair_of}
 use Rattle.gaz_pick.proofs.OrderLemmas.{by_test, same_is, same_itself, holds-in_order}
 use Rattle.gaz_plain.specs.Gazetteer.{Gazetteer, IsGazetteer, IsLine, KeysRise, key_of, key_cmp, line_at}
-use Rattle.gaz_plain.specs.Search.{matches, matching_pairs, answer_pairs, search_of}
+use Rattle.gaz_plain.specs.Search.{matches, rows_at, answer_pairs, search_of}
 use Rattle.gaz_plain.proofs.KeyOrder.{key_ties}
 
 -- ---- a row is found by its id
@@ -24,7 +24,7 @@ pub keyed : (id : Option ℕ) → is_some id ≡ true → unwrap_or (option_map 
 keyed None some = absurd (true≢false (sym some))
 keyed (Some id) some = refl
 
-key_is_id : (row : List ℕ) → IsLine Row row → key_of Rows row ≡ id_of row ∷ []
+pub key_is_id : (row : List ℕ) → IsLine Row row → key_of Rows row ≡ id_of row ∷ []
 key_is_id row line = keyed (id_in (column 1 row)) (accepted row line.accepted).id
 
 -- each line of a table is found by its key
@@ -95,10 +95,15 @@ pairs_of_rows all (p ∷ ps) have =
     let first = have p (ap (λ b. b || holds ps p) (same_itself p)) in
     rw first.found (ap₂ ◌∷◌ first.is (pairs_of_rows all ps (λ q held. have q (or_right (is_same q p) (holds ps q) held))))
 
-pub answers_have_rows : (gaz : Gazetteer) (asked : Asked) → IsGazetteer gaz → map pair_of (search_of gaz asked) ≡ answer_pairs gaz asked
-answers_have_rows gaz asked is =
+-- a cut of the pairs of rows that pass a test
+pub cut_has_rows : (gaz : Gazetteer) (test : List ℕ → Bool) (start max : ℕ) → IsGazetteer gaz → map pair_of (rows_at gaz (cut (map pair_of (filter test gaz.rows)) start max)) ≡ cut (map pair_of (filter test gaz.rows)) start max
+cut_has_rows gaz test start max is =
     let table = is.tables Rows in
     let found : AreFound gaz.rows gaz.rows = λ k d below. subst (λ key. line_at Rows key gaz.rows ≡ Some (get_or gaz.rows k d)) (key_is_id (get_or gaz.rows k d) (table.each k d below)) (found_by_key Rows gaz.rows k d table.rising below) in
-    pairs_of_rows gaz.rows (answer_pairs gaz asked)
-    (λ p held. has_row gaz.rows (matches gaz asked) p gaz.rows found
-    (sym (holds-in_order (matching_pairs gaz asked) p) ∙ holds-drop asked.start (in_order (matching_pairs gaz asked)) p (holds-take asked.max (drop asked.start (in_order (matching_pairs gaz asked))) p held)))
+    let pairs = map pair_of (filter test gaz.rows) in
+    pairs_of_rows gaz.rows (cut pairs start max)
+    (λ p held. has_row gaz.rows test p gaz.rows found
+    (sym (holds-in_order pairs p) ∙ holds-drop start (in_order pairs) p (holds-take max (drop start (in_order pairs)) p held)))
+
+pub answers_have_rows : (gaz : Gazetteer) (asked : Asked) → IsGazetteer gaz → map pair_of (search_of gaz asked) ≡ answer_pairs gaz asked
+answers_have_rows gaz asked is = cut_has_rows gaz (matches gaz asked) asked.start asked.max is

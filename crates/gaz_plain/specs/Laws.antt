@@ -1,5 +1,5 @@
 -- What holds of every step, fold, load and day.
-use Rattle.std.specs.Prelude.{◌≡◌, ℕ, ◌<◌, true, false, List, ◌++◌, length, map, sum_by, Option, Some, None, IsSome, Ok, Err, IfOk}
+use Rattle.std.specs.Prelude.{◌≡◌, ℕ, ◌<◌, true, false, List, ◌++◌, length, map, reverse, sum_by, Option, Some, None, IsSome, Ok, Err, IfOk}
 use Rattle.gaz_num.specs.declared.words.Kind.{Kind}
 use Rattle.gaz_num.specs.declared.words.Table.{Table}
 use Rattle.gaz_num.specs.Check.{key_in}
@@ -8,7 +8,9 @@ use Rattle.gaz_num.specs.Refusal.{sequence, ◌>>=◌}
 use Rattle.gaz_plain.specs.Gazetteer.{Gazetteer, IsGazetteer, table_of, is_delete, line_with, step}
 use Rattle.gaz_pick.specs.Asked.{Asked}
 use Rattle.gaz_pick.specs.Match.{pair_of}
+use Rattle.gaz_row.specs.Row.{id_of}
 use Rattle.gaz_plain.specs.Search.{answer_pairs, search_of}
+use Rattle.gaz_plain.specs.Kin.{chain_of, hierarchy_of, children_pairs, children_of}
 use Rattle.gaz_plain.specs.Fold.{File, fold, part}
 use Rattle.gaz_plain.specs.Load.{Files, load, day}
 
@@ -67,3 +69,11 @@ FoldsAppend = (gaz : Gazetteer) (files more : List File) → fold gaz (files ++ 
 -- The answer to a search has a row for each of its pairs, with that population and that id: none is lost between pairs and rows.
 abbrev pub AnswersHaveRows : Type 0
 AnswersHaveRows = (gaz : Gazetteer) (asked : Asked) → IsGazetteer gaz → map pair_of (search_of gaz asked) ≡ answer_pairs gaz asked
+
+-- Each id of a chain has its row: the rows of a hierarchy have the ids of the chain, from the top down.
+abbrev pub ChainsHaveRows : Type 0
+ChainsHaveRows = (gaz : Gazetteer) (id : ℕ) → IsGazetteer gaz → map id_of (hierarchy_of gaz id) ≡ reverse (chain_of gaz id)
+
+-- The children of a place have a row for each of their pairs: none is lost between pairs and rows.
+abbrev pub ChildrenHaveRows : Type 0
+ChildrenHaveRows = (gaz : Gazetteer) (id max : ℕ) → IsGazetteer gaz → map pair_of (children_of gaz id max) ≡ children_pairs gaz id max

@@ -1,5 +1,5 @@
 //! What holds of every step, fold, load and day. To call one of these is to know it; none does anything.
-ghost use Rattle.gaz_plain.specs.Laws.{FoldKeeps, PartKeeps, LoadGives, DayGives, DayTwice, StepLeavesOthers, StepPuts, StepTakesOut, PartIsFold, FoldsAppend, AnswersHaveRows};
+ghost use Rattle.gaz_plain.specs.Laws.{FoldKeeps, PartKeeps, LoadGives, DayGives, DayTwice, StepLeavesOthers, StepPuts, StepTakesOut, PartIsFold, FoldsAppend, AnswersHaveRows, ChainsHaveRows, ChildrenHaveRows};
 
 /// What a fold, a part of one, a load and a day make is a gazetteer with the date that they were for.
 pub fn keeps_gazetteers()
@@ -34,4 +34,10 @@ pub fn folds_append()
 /// The pairs of an answer are those of its rows, in order: no row is lost.
 pub fn answers_have_rows()
     ensures { AnswersHaveRows }
+{}
+
+/// Each id of a chain has its row, and so has each pair of children.
+pub fn kin_have_rows()
+    ensures chains { ChainsHaveRows }
+    ensures children { ChildrenHaveRows }
 {}

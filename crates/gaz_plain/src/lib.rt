@@ -8,6 +8,7 @@
 mod alternates;
 mod fault;
 mod key;
+mod kin;
 mod laws;
 mod line_list;
 mod lines;
@@ -16,8 +17,10 @@ mod plain_gaz;
 mod wanted;
 
 pub use fault::PlainFault;
+pub use kin::PlainKin;
 pub use laws::{
-    answers_have_rows, day_twice, folds_append, keeps_gazetteers, part_is_fold, steps_by_key,
+    answers_have_rows, day_twice, folds_append, keeps_gazetteers, kin_have_rows, part_is_fold,
+    steps_by_key,
 };
 pub use lines::Lines;
 pub use plain_gaz::PlainGaz;

@@ -2,6 +2,8 @@
 ghost use Rattle.std.specs.Prelude.{◌≡◌, ◌≤◌, ◌+◌, ◌∷◌, ◌++◌, [], true, false, length, take, drop, slice_get, IsSome, IsTrue, IsOk, IfOk, IfErr, OnOk, OnErr, Ok};
 ghost use Rattle.std.specs.Option.{option_copied};
 ghost use Rattle.gaz_num.specs.declared.words.Table.TheVariants.{Rows};
+ghost use Rattle.std.specs.List.{list_any};
+ghost use Rattle.gaz_parent.specs.Parent.{is_link};
 ghost use Rattle.gaz_pick.specs.Order.{in_order};
 ghost use Rattle.gaz_pick.specs.Asked.{absent, asked};
 ghost use Rattle.gaz_plain.specs.Search.{matches, matching_pairs, answer_pairs};
@@ -20,7 +22,7 @@ use gaz_alt::{check_alt, check_delete};
 use gaz_num::{Day, Kind, Table};
 use gaz_pick::{Best, Query, first_of_more, passes};
 use gaz_row::{Row, check_row};
-use gaz_tables::{LinkKey, check_code, check_country, check_link};
+use gaz_tables::{LinkClass, LinkKey, check_code, check_country, check_link};
 use std::alloc::{AllocError, Global};
 use std::marker::Model;
 
@@ -220,6 +222,29 @@ impl PlainGaz {
             Some(key) => self.codes.get(&key),
             None => None,
         }
+    }
+
+    /// The line of a country's code, if there is one.
+    pub(crate) fn country(&self, code: &[u8]) -> Option<&[u8]>
+        ensures { option_copied result ≡ line_with Table.Countries code.now self.now }
+    {
+        match CountryCode::of(code) {
+            Some(key) => self.countries.get(&key),
+            None => None,
+        }
+    }
+
+    /// Whether there is a link of the class from the child to the parent.
+    pub(crate) fn has_link(&self, child: u32, class: LinkClass, parent: u32) -> bool
+        ensures { result ≡ list_any (is_link class child parent) self.now.links }
+    {
+        self.links
+            .get(&LinkKey {
+                child,
+                class,
+                parent,
+            })
+            .is_some()
     }
 
     /// How many lines the table has.
