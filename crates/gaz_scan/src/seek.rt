@@ -1,6 +1,6 @@
 //! The search for the leaf with the first pair from a key on.
 ghost use Rattle.std.specs.Prelude.{◌≡◌, ◌<◌, ◌≤◌, ◌+◌, ◌*◌, ℕ, suc, List, [], take, drop, length, false, IsTrue, IfOk, IfErr};
-ghost use Rattle.gaz_leaf.specs.Node.{Pair, key_in, pairs_in, count_of as count_in, key_of, entry_at, IsForm, IsShaped};
+ghost use Rattle.gaz_leaf.specs.Node.{Pair, key_in, pairs_in, count_of as count_in, number_of, key_of, entry_at, IsForm, IsShaped};
 ghost use Rattle.gaz_tree.specs.Pairs.{Within};
 ghost use Rattle.gaz_tree.specs.Tree.{BeginsWithZero, children_of, leaf_of, tree_pairs, next_key, IsFan, IsHead, IsTree, SomeEntry};
 ghost use Rattle.gaz_page.specs.Pages.{HasReads, NoMemory};
@@ -35,6 +35,7 @@ fn copy_in(bytes: &[u8], page: u32, key: Key, copied: &mut Copied) -> Result<boo
         → low ≤ key_in key → key_in key < high → Sought low high (key_in key) (pairs_in Kind.Leaf bytes.now) result copied.new }
     ensures copies { Copies result copied.old copied.new }
     ensures damaged { IfErr result (λ fault. fault ≡ PageFault.Damaged page) }
+    ensures own { IfOk result (λ found. number_of bytes.now ≡ page) }
     ensures unfit { IfErr result (λ fault. IsForm Kind.Leaf page bytes.now → ⊥) }
 {
     if !is_page(bytes, Kind::Leaf, page) {
@@ -56,6 +57,7 @@ fn copy_all_in(bytes: &[u8], page: u32, copied: &mut Copied) -> Result<(), PageF
         → 0 < count_in bytes.now → First low high (pairs_in Kind.Leaf bytes.now) result copied.new }
     ensures copies { CopiesOne result copied.old copied.new }
     ensures damaged { IfErr result (λ fault. fault ≡ PageFault.Damaged page) }
+    ensures own { IfOk result (λ copied. number_of bytes.now ≡ page) }
     ensures unfit { IfErr result (λ fault. IsUnfit Kind.Leaf page bytes.now) }
 {
     if !is_page(bytes, Kind::Leaf, page) {
