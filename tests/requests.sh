@@ -8,7 +8,7 @@ cd "$folder" || exit 1
 { row 1 A 1; echo; row 2 B 2; echo; row 3 C 3; echo; } > allCountries.txt
 { row 2 X 9; echo; } > modifications-2024-03-02.txt
 printf '3\tC\tgone\n' > deletes-2024-03-02.txt
-no_alternates
+empty_others
 
 expect no_requests 0 '' serve < /dev/null
 expect_anew a_load_and_a_get 0 $'ok load 2024-03-01\n'"$(row 2 B 2)"$'\nok 1\nok 0\n' serve <<< $'load 2024-03-01\nget 2\nget 4'
@@ -27,7 +27,7 @@ printf '3\tC\tgone\n' > deletes-2024-03-02.txt
 long_row() { printf '7\t%s%s' "$(head -c $(($1 - 38)) /dev/zero | tr '\0' n)" $'\t\t\t0\t0\tP\tPPL\tAA\t\t\t\t\t\t1\t\t\t\t2024-02-01'; }
 mkdir long && cd long || exit 1
 long_row 65535 > allCountries.txt
-no_alternates
+empty_others
 expect_anew the_longest_row 0 $'ok load 2024-03-01\n'"$(long_row 65535)"$'\nok 1\n' serve <<< $'load 2024-03-01\nget 7'
 long_row 65536 > allCountries.txt
 expect_anew a_row_of_a_byte_more 0 $'refused malformed allCountries.txt 1 length\nrefused notloaded\n' serve <<< $'load 2024-03-01\nget 7'
@@ -50,7 +50,7 @@ replies=$'ok load 2024-02-25\n'
 for day in 2024-02-26 2024-02-27 2024-02-28 2024-02-29 2024-03-01 2024-03-02 2024-03-03 2024-03-04 2024-03-05 2024-03-06; do
     { row 2 "$day" 7; echo; } > "modifications-$day.txt"
     : > "deletes-$day.txt"
-    no_alternates
+    empty_others
     requests+="day $day"$'\nget 2\n'
     replies+="ok day $day"$'\n'"$(row 2 "$day" 7)"$'\nok 1\n'
 done
@@ -83,7 +83,7 @@ if [ -r "$cities" ]; then
     cp "$cities" allCountries.txt
     grep -P '^2988507\t' "$cities" | sed 's/\tParis\tParis\t/\tParis\tPARIS\t/' > modifications-2024-03-02.txt
     printf '3040051\tles Escaldes\tmade\n' > deletes-2024-03-02.txt
-    no_alternates
+    empty_others
     expect a_real_extract_and_a_day 0 $'ok load 2024-03-01\n'"$(grep -P '^2988507\t' "$cities")"$'\nok 1\nok day 2024-03-02\n'"$(cat modifications-2024-03-02.txt)"$'\nok 1\nok 0\n' \
         serve <<< $'load 2024-03-01\nget 2988507\nday 2024-03-02\nget 2988507\nget 3040051'
 else

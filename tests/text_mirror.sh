@@ -30,7 +30,7 @@ lines "$x2" > modifications-2024-03-02.txt
 printf '3\tC\tgone\n' > deletes-2024-03-02.txt
 lines "$d4" > modifications-2024-03-03.txt
 : > deletes-2024-03-03.txt
-no_alternates
+empty_others
 # areas_are ROOT LEFT RIGHT: the files' bytes, each a file's name; no text where it is empty.
 areas_are() {
     check "$1 the gate" "$(od -An -tu1 mirror.mark)" '   0'
@@ -214,7 +214,7 @@ made() { awk -v last="$1" -v step="$2" -v more="$3" -v line="$(row '' 'Place ' '
 made 2000 1 0 > allCountries.txt
 made 2000 10 1000000 > modifications-2024-03-02.txt
 seq 100 100 2000 > deletes-2024-03-02.txt
-no_alternates
+empty_others
 seq 1 2000 | sed 's/^/get /' > ../gets
 sed 's/$/\nok 1/' allCountries.txt > ../loaded
 awk -F '\t' 'NR == FNR { changed[$1] = $0; next } $1 % 100 == 0 { print "ok 0"; next } { print ($1 in changed) ? changed[$1] : $0; print "ok 1" }' modifications-2024-03-02.txt allCountries.txt > ../changed
