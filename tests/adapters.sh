@@ -42,9 +42,11 @@ ask() {
 ask 'load 2024-03-01' 1
 check absent "$asked" 'refused absent allCountries.txt;'
 { row 1 A 1; echo; } > allCountries.txt
-ask 'load 2024-03-01' 1
-check no_alternate_names "$asked" 'refused absent alternateNamesV2.txt;'
-: > alternateNamesV2.txt
+for file in "${load_files[@]:1}"; do
+    ask 'load 2024-03-01' 1
+    check "no_$file" "$asked" "refused absent $file;"
+    : > "$file"
+done
 ask 'load 2024-03-01' 1
 check it_came "$asked" 'ok load 2024-03-01;'
 ask 'day 2024-03-02' 1

@@ -37,11 +37,48 @@ long_alternate 65535 > alternateNamesV2.txt
 expect_anew the_longest_alternate 0 $'ok load 2024-03-01\n'"$(long_row 65535)"$'\nok 1\n' serve <<< $'load 2024-03-01\nsearch name_startsWith=nnn\tsearchlang=de'
 long_alternate 65536 > alternateNamesV2.txt
 expect_anew an_alternate_of_a_byte_more 0 $'refused malformed alternateNamesV2.txt 1 length\nrefused notloaded\n' serve <<< $'load 2024-03-01\nget 7'
+: > alternateNamesV2.txt
+
+# The same of the other files. A comment has no other check than that of its length.
+# long_line KIND LENGTH
+long_line() {
+    local front
+    case $1 in
+        hierarchy.txt) front=$'7\t8\t' ;;
+        countryInfo.txt) front=$'AA\t\t\t\t\t\t\t\t\t\t\t\t\t\t\t\t' ;;
+        comment) front='#' ;;
+        *) front=$'AA.01\t\t\t' ;;
+    esac
+    printf '%s' "$front"
+    head -c $(($2 - ${#front})) /dev/zero | tr '\0' '\376'
+}
+for kind in hierarchy.txt countryInfo.txt comment admin1CodesASCII.txt admin2Codes.txt; do
+    file=${kind/comment/countryInfo.txt}
+    long_line $kind 65536 > "$file"
+    expect_anew "a_line_of_a_byte_more_$kind" 0 "refused malformed $file 1 length"$'\nrefused notloaded\n' serve <<< $'load 2024-03-01\nget 7'
+    long_line $kind 65535 | tr '\376' n > "$file"
+    expect_anew "the_longest_line_$kind" 0 $'ok load 2024-03-01\nok 0\n' serve <<< $'load 2024-03-01\nget 8'
+    : > "$file"
+done
+long_line comment 65535 > countryInfo.txt
+expect_anew a_comment_that_is_no_text 0 $'ok load 2024-03-01\nok 0\n' serve <<< $'load 2024-03-01\nget 8'
+long_line countryInfo.txt 65535 > countryInfo.txt
+expect_anew a_country_that_is_no_text 0 $'refused malformed countryInfo.txt 1 utf8\nrefused notloaded\n' serve <<< $'load 2024-03-01\nget 8'
+long_line admin1CodesASCII.txt 65535 | tr '\376' n > admin1CodesASCII.txt
+: > countryInfo.txt
+expect_anew the_longest_code_is_printed 0 $'ok load 2024-03-01\n'"$(cat admin1CodesASCII.txt)"$'\nok 1\n' serve <<< $'load 2024-03-01\nadmin AA.01'
 cd ..
 expect_anew no_file 0 $'ok load 2024-03-02\nrefused absent modifications-2024-03-03.txt\n' serve <<< $'load 2024-03-02\nday 2024-03-03'
 mkdir modifications-2024-03-03.txt
 expect_anew a_folder_in_place_of_a_file 0 $'ok load 2024-03-02\nrefused shelf modifications-2024-03-03.txt\n' serve <<< $'load 2024-03-02\nday 2024-03-03'
 rmdir modifications-2024-03-03.txt
+for file in "${load_files[@]}"; do
+    mv "$file" set_aside && mkdir "$file"
+    expect_anew "a_folder_in_place_of_$file" 0 "refused shelf $file"$'\nrefused notloaded\n' serve <<< $'load 2024-03-02\nget 1'
+    rmdir "$file"
+    expect_anew "no_$file" 0 "refused absent $file"$'\nrefused notloaded\n' serve <<< $'load 2024-03-02\nget 1'
+    mv set_aside "$file"
+done
 expect words_behind_serve 2 '' serve now < /dev/null
 
 # Ten days in one run, over a leap day and a turn of the month.
