@@ -27,7 +27,7 @@ step=$((rows / lines > 0 ? rows / lines : 1))
 made 1 1 "$rows" Made > allCountries.txt
 { made 1 "$step" $((lines - lines / 10)) Changed; made $((rows + 1)) 1 $((lines / 10)) Added; } > modifications-2024-03-02.txt
 made 2 "$step" $((lines / 10)) Made | awk -F '\t' -v OFS='\t' '{ print $1, $2, "gone" }' > deletes-2024-03-02.txt
-: > alternateNamesV2.txt
+: | tee alternateNamesV2.txt hierarchy.txt countryInfo.txt admin1CodesASCII.txt > admin2Codes.txt
 : > alternateNamesModifications-2024-03-02.txt
 : > alternateNamesDeletes-2024-03-02.txt
 echo 'load 2024-03-01' > load.txt

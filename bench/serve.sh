@@ -13,7 +13,7 @@ mawk -v n="$rows" 'BEGIN { for (i = 1; i <= n; i++)
     printf "%d\tMade place %d\tMade place %d\t\t%.5f\t%.5f\tP\tPPL\tAA\t\t%02d\t%03d\t\t\t%d\t\t%d\tEurope/Paris\t2024-02-01\n", i, i, i, (i % 180) - 90 + 0.5, (i % 360) - 180 + 0.25, i % 100, i % 1000, i * 7 % 100000, i % 3000 }' > allCountries.txt
 mawk -v n="$rows" -v g="$gets" 'BEGIN { for (i = 0; i < g; i++) print "get " (i * 7919 % n + 1) }' > gets.txt
 { echo 'load 2024-03-01'; cat gets.txt; } > requests.txt
-: > alternateNamesV2.txt
+: | tee alternateNamesV2.txt hierarchy.txt countryInfo.txt admin1CodesASCII.txt > admin2Codes.txt
 echo 'load 2024-03-01' > load.txt
 sed 's/get \(.*\)/SELECT line FROM rows WHERE id = \1;/' gets.txt > gets.sql
 "$top/gaz" prove

@@ -8,7 +8,7 @@ cd "$folder" || exit 1
 # A standard output that is closed never lets an area take its place: the acknowledgement would be written into the mirror.
 mkdir closed && cd closed || exit 1
 { row 1 A 1; echo; } > allCountries.txt
-no_alternates
+empty_others
 "$program" serve <<< 'load 2024-03-01' >&-
 check output_closed "$?" 3
 check no_reply_in_the_mirror "$(cat mirror.* | grep -c 'ok load')" 0
@@ -42,9 +42,11 @@ ask() {
 ask 'load 2024-03-01' 1
 check absent "$asked" 'refused absent allCountries.txt;'
 { row 1 A 1; echo; } > allCountries.txt
-ask 'load 2024-03-01' 1
-check no_alternate_names "$asked" 'refused absent alternateNamesV2.txt;'
-: > alternateNamesV2.txt
+for file in "${load_files[@]:1}"; do
+    ask 'load 2024-03-01' 1
+    check "no_$file" "$asked" "refused absent $file;"
+    : > "$file"
+done
 ask 'load 2024-03-01' 1
 check it_came "$asked" 'ok load 2024-03-01;'
 ask 'day 2024-03-02' 1
@@ -102,12 +104,12 @@ END
 if command -v cc > /dev/null && cc -shared -fPIC -o short.so short.c -ldl 2> cc.err; then
     mkdir short saved && cd short || exit 1
     for id in $(seq 1 2000); do row "$id" "Place $id" "$id"; echo; done > allCountries.txt
-    no_alternates
+    empty_others
     "$program" serve <<< 'load 2024-03-01' > ../reply
     cp "${mirror[@]}" ../saved
     sed 's/Place/Town/' allCountries.txt > modifications-2024-03-02.txt
     : > deletes-2024-03-02.txt
-    no_alternates
+    empty_others
     printf 'day 2024-03-02\nget 1\nget 2000\n' > ../requests
     { echo 'ok day 2024-03-02'; for id in 1 2000; do row "$id" "Town $id" "$id"; printf '\nok 1\n'; done; } > ../wanted
     sed 1d ../wanted > ../wanted_again

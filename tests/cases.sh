@@ -36,7 +36,7 @@ for table in "$@"; do
     mkdir "$cases"
     cut_up "$table" "$cases"
     for one in "$cases"/*/; do
-        no_alternates "$one/files"
+        empty_others "$one/files"
         [ ! -e "$one/left_out" ] || rm "$one/files/$(cat "$one/left_out")"
         (cd "$one/files" && "$program" serve < ../requests > ../got 2> ../errors; echo "status $?" >> ../errors)
         check "$(basename "$table"): $(cat "$one/name")" "$(cat "$one/errors" "$one/got"; echo end)" "$(echo 'status 0'; cat "$one/replies"; echo end)"

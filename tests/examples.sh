@@ -6,6 +6,8 @@ set -u
 # session COMMAND: what the README shows behind the line `    $ COMMAND`, up to the next command or blank line, without its indent.
 session() { wanted="    \$ $1" awk '$0 == ENVIRON["wanted"] { inside = 1; next } inside && (/^$/ || /^    \$ /) { exit } inside { print substr($0, 5) }' "$top/README.md"; }
 
+# shellcheck disable=SC2016 # it stands so in the README
+check a_trial "$(mkdir "$folder/trial" && cd "$folder/trial" && "$program" trial 7 20000 < /dev/null)" "$(session '(gaz=$PWD/gaz; cd "$(mktemp -d)" && $gaz trial 7 20000)')"
 check scan_of_three_places "$("$program" scan 2 < "$top/examples/three_places.txt")" "$(session './gaz scan 2 < examples/three_places.txt')"
 
 # In a copy, as there: the mirror that it leaves isn't to lie among the examples, nor to be found by the next run of this.
@@ -15,6 +17,9 @@ check the_next_run "$("$program" serve <<< 'get 104')" "$(session "\$gaz serve <
 check a_search "$("$program" serve <<< 'search name_equals=ÉVERMORE')" "$(session "\$gaz serve <<< 'search name_equals=ÉVERMORE'")"
 check a_search_in_german "$("$program" serve <<< $'search name_startsWith=neue\tsearchlang=de')" "$(session "\$gaz serve <<< \$'search name_startsWith=neue\\tsearchlang=de'")"
 check a_search_in_any_language "$("$program" serve <<< 'search name_equals=GROSS-IMMERMEHR')" "$(session "\$gaz serve <<< 'search name_equals=GROSS-IMMERMEHR'")"
+for request in 'hierarchy 105' 'children 91' 'admin XB.02'; do
+    check "$request" "$("$program" serve <<< "$request")" "$(session "\$gaz serve <<< '$request'")"
+done
 check examples_stay_clean "$(cd "$top/examples" && find . -name 'mirror.*')" ''
 
 finish

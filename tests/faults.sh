@@ -24,6 +24,10 @@ if strace -o "$folder/trace" true 2> /dev/null; then
     cd "$folder" || exit 1
     { row 1 A 1; echo; } > allCountries.txt
     printf '10\t1\tde\tErste\n' > alternateNamesV2.txt
+    printf '1\t2\tADM\n' > hierarchy.txt
+    printf '# a comment\nAA\t\t\t\t\t\t\t\t\t\t\t\t\t\t\t\t1\n' > countryInfo.txt
+    printf 'AA.01\tOne\tOne\t2\n' > admin1CodesASCII.txt
+    printf 'AA.01.001\tTwo\tTwo\t3\n' > admin2Codes.txt
     printf 'load 2024-03-01\nload 2024-03-01\n' > requests
     loaded=$'ok load 2024-03-01\n'
     # serve_with FILE FAULT: two loads into an empty mirror, where a call on the file meets the fault.
@@ -32,7 +36,7 @@ if strace -o "$folder/trace" true 2> /dev/null; then
         strace -qq -o trace -P "$1" -e "inject=$2" "$program" serve < requests 2> trace.err
         echo "status $?"
     }
-    for file in allCountries.txt alternateNamesV2.txt; do
+    for file in "${load_files[@]}"; do
         for fault in openat:error=EACCES:when=1 statx:error=EIO:when=1 pread64:error=EIO:when=1 pread64:error=EIO:when=2; do
             check "${file}_with_$fault" "$(serve_with $file "$fault")" "refused shelf $file"$'\n'"${loaded}status 0"
         done

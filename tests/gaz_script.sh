@@ -1,6 +1,6 @@
 #!/usr/bin/env bash
 # `./gaz` in all its cases: proved, unproved, unbuilt and stale; standard output and the status are the program's alone. A stand-in
-# for `rt` tells what it was asked for, and makes the program or fails; where there is a real one, it runs one scan.
+# for `rt` tells what it was asked for, and makes the program or fails; where there is a real one, it runs one scan and one trial.
 set -u
 . "$(dirname "$0")/lib/expect.bash"
 
@@ -21,7 +21,8 @@ case \$1 in
     try)
         shift 2
         [ ! -e "$folder/try_fails" ] || { echo 'run=none proved=no' >&2; exit 2; }
-        "$program" "\$@"
+        [ ! -e "$folder/try_is_cut" ] || { printf '%s\n' 'checked: no-answer: the program wrote more than 1048576 bytes to standard output' 'run=no-answer proved=no' >&2; exit 2; }
+        cd "\$(mktemp -d -p "$folder")" && "$program" "\$@"
         status=\$?
         echo "run=ended status=\$status runners=1 proved=no" >&2
         exit \$status ;;
@@ -77,7 +78,8 @@ for words in '' help --help; do
     check "usage of <$words>" "$(gaz "$folder/none" $words < /dev/null) $(says '^usage: gaz scan ID') $(($(wc -l < why) <= 16))" 'status 2 1 1'
 done
 
-# Nothing is built: a scan is run unproved, and a line says so; serve is proved first, crate by crate.
+# Nothing is built: a scan, a table and a trial are run unproved, and a line says so; serve is proved first, crate by crate, and so
+# is a trial where there is a mirror, which it would have to look at.
 unbuilt
 check an_unproved_scan "$(gaz "$folder/tools" scan 5 < /dev/null)" $'ok 0\nstatus 0'
 check it_says_so "$(says 'is run unproved')$(says 'gaz prove')" 11
@@ -86,6 +88,13 @@ check an_unproved_refusal "$(gaz "$folder/tools" scan 5 <<< x)" $'refused malfor
 check unproved_words_that_are_none "$(gaz "$folder/tools" scan x < /dev/null)" 'status 2'
 # (a line of the input is longer than rt try would hand on)
 check an_input_that_is_too_long "$(gaz "$folder/tools" scan 5 < <(head -c 63000000 /dev/zero)) $(says 'longer than the 60 MiB')" 'status 9 1'
+check an_unproved_table "$(gaz "$folder/tools" make 0 1 < /dev/null) $(says 'is run unproved')" "$("$program" make 0 1 < /dev/null)"$'\nstatus 0 1'
+check it_takes_nothing_of_the_input "$({ PATH=$folder/tools "$copy/gaz" make 0 1 2> why > got; cat; } <<< untouched)" untouched
+touch try_is_cut
+check a_table_that_is_too_long "$(gaz "$folder/tools" make 0 1000000 < /dev/null) $(says 'longer than the 1 MiB')" 'status 9 1'
+rm try_is_cut
+check an_unproved_trial "$(mkdir -p place && cd place && gaz "$folder/tools" trial 0 2 < /dev/null) $(says 'is run unproved') $(says 'a folder of its own') $(ls -A place)" \
+    $'ok load 2000-01-01\nok day 2000-01-02\n'"$("$program" make 0 2 < /dev/null)"$'\nok 2\nstatus 0 1 1 '
 touch try_fails
 check rt_try_fails "$(gaz "$folder/tools" scan 5 < /dev/null) $(says 'rt try in crates/gaz_main failed')" 'status 9 1'
 rm try_fails
@@ -103,6 +112,9 @@ check lower_ones_first "$(printf '%s\n' "$crates" | grep -n -e '^gaz_outside lib
 check a_line_for_each "$(grep -c -E '^gaz: [0-9]+ of [0-9]+: gaz_[a-z]+ \([0-9]+ min so far\)$' why)" "$(printf '%s\n' "$crates" | wc -l)"
 check it_is_current_then "$(cd place && gaz "$folder/none" serve <<< 'get 1') $(cat why)" $'refused notloaded\nstatus 0 '
 unbuilt
+check a_trial_over_a_mirror_proves_first "$(cd place && gaz "$folder/tools" trial 0 2 < /dev/null | tail -n 1) $(grep -c ' run -- scan 1' asked)" 'status 0 1'
+check and_again "$(cd place && gaz "$folder/none" trial 0 2 < /dev/null) $(cat why)" $'refused trial\nstatus 1 '
+unbuilt
 check prove_alone "$(gaz "$folder/tools" prove) $(says 'the proved program is')" 'status 0 1'
 
 # A newer source makes the program stale, and no older one is run.
@@ -115,6 +127,9 @@ if command -v rt > /dev/null; then
     (cd "$top" && find crates -name out -prune -o -type f -print | tar -cf - -T -) | tar -xf - -C real
     got=$(real/gaz scan 2 < "$top/examples/three_places.txt" 2> why; echo "status $?")
     check a_real_unproved_scan "$got" "$("$program" scan 2 < "$top/examples/three_places.txt")"$'\nstatus 0'
+    mkdir a_trial of_the_program
+    got=$(cd a_trial && ../real/gaz trial 7 20000 2> ../why < /dev/null; echo "status $?")
+    check a_real_unproved_trial "$got $(ls -A a_trial)" "$(cd of_the_program && "$program" trial 7 20000 < /dev/null)"$'\nstatus 0 '
 fi
 
 finish

@@ -24,7 +24,7 @@ files_of_day() {
     row $added "day $1" 1 >> "modifications-${dates[$1]}.txt"
     echo >> "modifications-${dates[$1]}.txt"
     printf '%d\tday 0\tgone\n' $((20 * $1 + 1)) > "deletes-${dates[$1]}.txt"
-    no_alternates
+    empty_others
 }
 
 # answers_after APPLIED NUMBER: what is to be answered to the requests of the day with this number after so many days.
@@ -70,7 +70,7 @@ killed_within() {
     status=$?
 }
 
-no_alternates
+empty_others
 expect a_load 0 $'ok load 2024-03-01\n' serve <<< 'load 2024-03-01'
 begin_day 1
 

@@ -10,7 +10,7 @@ mkdir first refused bad zeros
 printf '3\tC\tgone\n' > first/deletes-2024-03-02.txt
 { row 4 D 4; echo; } > first/modifications-2024-03-03.txt
 : > first/deletes-2024-03-03.txt
-no_alternates first
+empty_others first
 
 # places FOLDER: what a run finds of the four places, and the date by the refusal of a day.
 places() { (cd "$1" && "$program" serve <<< $'get 1\nget 2\nget 3\nget 4\nday 2000-01-01'; echo "status $?"); }
@@ -90,7 +90,7 @@ check a_copy_of_the_files "$(places ../moved)" "$after_two_days"
 # A load that was stored stands, though its reply couldn't be printed.
 cd ../moved || exit 1
 { row 1 Z 1; echo; } > allCountries.txt
-no_alternates
+empty_others
 "$program" serve <<< 'load 2024-05-01' > /dev/full
 check a_reply_that_is_lost "$?" 3
 check the_load_was_stored "$(places .)" "$(row 1 Z 1)"$'\nok 1\nok 0\nok 0\nok 0\nrefused sequence 2024-05-01\nstatus 0'
@@ -130,7 +130,7 @@ rmdir mirror.log
 # by a signal, 139 of the shell.
 mkdir ../large && cd ../large || exit 1
 awk -v line="$(row 1 A 1)" 'BEGIN { sub(/^1/, "", line); for (id = 1; id <= 20000; id++) print id line }' > allCountries.txt
-no_alternates
+empty_others
 "$program" serve <<< 'load 2024-03-01' > ../reply
 large=$(sums .)
 # get_within KILOBYTES ID: what a run with so much memory answers.

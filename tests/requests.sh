@@ -8,7 +8,7 @@ cd "$folder" || exit 1
 { row 1 A 1; echo; row 2 B 2; echo; row 3 C 3; echo; } > allCountries.txt
 { row 2 X 9; echo; } > modifications-2024-03-02.txt
 printf '3\tC\tgone\n' > deletes-2024-03-02.txt
-no_alternates
+empty_others
 
 expect no_requests 0 '' serve < /dev/null
 expect_anew a_load_and_a_get 0 $'ok load 2024-03-01\n'"$(row 2 B 2)"$'\nok 1\nok 0\n' serve <<< $'load 2024-03-01\nget 2\nget 4'
@@ -27,7 +27,7 @@ printf '3\tC\tgone\n' > deletes-2024-03-02.txt
 long_row() { printf '7\t%s%s' "$(head -c $(($1 - 38)) /dev/zero | tr '\0' n)" $'\t\t\t0\t0\tP\tPPL\tAA\t\t\t\t\t\t1\t\t\t\t2024-02-01'; }
 mkdir long && cd long || exit 1
 long_row 65535 > allCountries.txt
-no_alternates
+empty_others
 expect_anew the_longest_row 0 $'ok load 2024-03-01\n'"$(long_row 65535)"$'\nok 1\n' serve <<< $'load 2024-03-01\nget 7'
 long_row 65536 > allCountries.txt
 expect_anew a_row_of_a_byte_more 0 $'refused malformed allCountries.txt 1 length\nrefused notloaded\n' serve <<< $'load 2024-03-01\nget 7'
@@ -37,11 +37,48 @@ long_alternate 65535 > alternateNamesV2.txt
 expect_anew the_longest_alternate 0 $'ok load 2024-03-01\n'"$(long_row 65535)"$'\nok 1\n' serve <<< $'load 2024-03-01\nsearch name_startsWith=nnn\tsearchlang=de'
 long_alternate 65536 > alternateNamesV2.txt
 expect_anew an_alternate_of_a_byte_more 0 $'refused malformed alternateNamesV2.txt 1 length\nrefused notloaded\n' serve <<< $'load 2024-03-01\nget 7'
+: > alternateNamesV2.txt
+
+# The same of the other files. A comment has no other check than that of its length.
+# long_line KIND LENGTH
+long_line() {
+    local front
+    case $1 in
+        hierarchy.txt) front=$'7\t8\t' ;;
+        countryInfo.txt) front=$'AA\t\t\t\t\t\t\t\t\t\t\t\t\t\t\t\t' ;;
+        comment) front='#' ;;
+        *) front=$'AA.01\t\t\t' ;;
+    esac
+    printf '%s' "$front"
+    head -c $(($2 - ${#front})) /dev/zero | tr '\0' '\376'
+}
+for kind in hierarchy.txt countryInfo.txt comment admin1CodesASCII.txt admin2Codes.txt; do
+    file=${kind/comment/countryInfo.txt}
+    long_line $kind 65536 > "$file"
+    expect_anew "a_line_of_a_byte_more_$kind" 0 "refused malformed $file 1 length"$'\nrefused notloaded\n' serve <<< $'load 2024-03-01\nget 7'
+    long_line $kind 65535 | tr '\376' n > "$file"
+    expect_anew "the_longest_line_$kind" 0 $'ok load 2024-03-01\nok 0\n' serve <<< $'load 2024-03-01\nget 8'
+    : > "$file"
+done
+long_line comment 65535 > countryInfo.txt
+expect_anew a_comment_that_is_no_text 0 $'ok load 2024-03-01\nok 0\n' serve <<< $'load 2024-03-01\nget 8'
+long_line countryInfo.txt 65535 > countryInfo.txt
+expect_anew a_country_that_is_no_text 0 $'refused malformed countryInfo.txt 1 utf8\nrefused notloaded\n' serve <<< $'load 2024-03-01\nget 8'
+long_line admin1CodesASCII.txt 65535 | tr '\376' n > admin1CodesASCII.txt
+: > countryInfo.txt
+expect_anew the_longest_code_is_printed 0 $'ok load 2024-03-01\n'"$(cat admin1CodesASCII.txt)"$'\nok 1\n' serve <<< $'load 2024-03-01\nadmin AA.01'
 cd ..
 expect_anew no_file 0 $'ok load 2024-03-02\nrefused absent modifications-2024-03-03.txt\n' serve <<< $'load 2024-03-02\nday 2024-03-03'
 mkdir modifications-2024-03-03.txt
 expect_anew a_folder_in_place_of_a_file 0 $'ok load 2024-03-02\nrefused shelf modifications-2024-03-03.txt\n' serve <<< $'load 2024-03-02\nday 2024-03-03'
 rmdir modifications-2024-03-03.txt
+for file in "${load_files[@]}"; do
+    mv "$file" set_aside && mkdir "$file"
+    expect_anew "a_folder_in_place_of_$file" 0 "refused shelf $file"$'\nrefused notloaded\n' serve <<< $'load 2024-03-02\nget 1'
+    rmdir "$file"
+    expect_anew "no_$file" 0 "refused absent $file"$'\nrefused notloaded\n' serve <<< $'load 2024-03-02\nget 1'
+    mv set_aside "$file"
+done
 expect words_behind_serve 2 '' serve now < /dev/null
 
 # Ten days in one run, over a leap day and a turn of the month.
@@ -50,7 +87,7 @@ replies=$'ok load 2024-02-25\n'
 for day in 2024-02-26 2024-02-27 2024-02-28 2024-02-29 2024-03-01 2024-03-02 2024-03-03 2024-03-04 2024-03-05 2024-03-06; do
     { row 2 "$day" 7; echo; } > "modifications-$day.txt"
     : > "deletes-$day.txt"
-    no_alternates
+    empty_others
     requests+="day $day"$'\nget 2\n'
     replies+="ok day $day"$'\n'"$(row 2 "$day" 7)"$'\nok 1\n'
 done
@@ -83,7 +120,7 @@ if [ -r "$cities" ]; then
     cp "$cities" allCountries.txt
     grep -P '^2988507\t' "$cities" | sed 's/\tParis\tParis\t/\tParis\tPARIS\t/' > modifications-2024-03-02.txt
     printf '3040051\tles Escaldes\tmade\n' > deletes-2024-03-02.txt
-    no_alternates
+    empty_others
     expect a_real_extract_and_a_day 0 $'ok load 2024-03-01\n'"$(grep -P '^2988507\t' "$cities")"$'\nok 1\nok day 2024-03-02\n'"$(cat modifications-2024-03-02.txt)"$'\nok 1\nok 0\n' \
         serve <<< $'load 2024-03-01\nget 2988507\nday 2024-03-02\nget 2988507\nget 3040051'
 else

@@ -11,7 +11,7 @@ ids() { grep -v '^ok ' | cut -f1; }
 cd "$folder" || exit 1
 mkdir many && cd many || exit 1
 awk 'BEGIN { for (id = 1; id <= 6001; id++) printf "%d\tPlace %d\tPlace %d\t\t0\t0\tP\tPPL\tAA\t\t\t\t\t\t%d\t\t\t\t2024-02-01\n", id, id, id, id % 3 ? id : id - 1 }' > allCountries.txt
-no_alternates
+empty_others
 sort -t $'\t' -k15,15nr -k1,1n allCountries.txt > ordered.txt
 expect a_load 0 $'ok load 2024-03-01\n' serve <<< 'load 2024-03-01'
 expect the_last_rows_that_can_be_asked_for 0 "$(sed -n 5001,6000p ordered.txt)"$'\nok 1000\n' serve <<< $'search startRow=5000\tmaxRows=1000'
@@ -26,7 +26,7 @@ cities=/usr/share/libtimezonemap/ui/cities15000.txt
 if [ -r "$cities" ] && command -v sqlite3 > /dev/null; then
     mkdir real && cd real || exit 1
     cp "$cities" allCountries.txt
-    no_alternates
+    empty_others
     expect a_real_load 0 $'ok load 2024-03-01\n' serve <<< 'load 2024-03-01'
     columns='id INTEGER, name TEXT, ascii TEXT, other TEXT, latitude REAL, longitude REAL, class TEXT, code TEXT, country TEXT, cc2 TEXT, a1 TEXT, a2 TEXT, a3 TEXT, a4 TEXT, population INTEGER, elevation TEXT, dem TEXT, zone TEXT, day TEXT'
     printf '.mode ascii\n.separator "\\t" "\\n"\nCREATE TABLE rows (%s);\n.import allCountries.txt rows\n' "$columns" | sqlite3 rows.db

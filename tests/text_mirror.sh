@@ -13,10 +13,10 @@ zeros() { head -c "$1" /dev/zero; }
 # lines LINE..: each with an LF.
 lines() { [ $# -eq 0 ] || printf '%s\n' "$@"; }
 
-# root AREA LENGTH DATE ROWS [ALTERNATES]: a root page that names a text: the number of its area, its length in bytes, the last
-# byte of the date's number, how many rows, and how many alternates, none where that isn't said. 2024-03-01 is the day 739,311, which
-# is 0x0b47ef: Python's date.toordinal() and 365.
-root() { bytes 6 0 0 0 "$1" 0 0 0 0 0 0 0 0 0 0 "$2" 0 0 0 0 0 11 71 "$3" 0 0 0 "$4" 0 0 0 "${5:-0}"; zeros 4064; }
+# root AREA LENGTH DATE ROWS [ALTERNATES LINKS COUNTRIES CODES]: a root page that names a text: the number of its area, its length in
+# bytes, the last byte of the date's number, and how many lines each table has, none where that isn't said. 2024-03-01 is the day
+# 739,311, which is 0x0b47ef: Python's date.toordinal() and 365.
+root() { bytes 6 0 0 0 "$1" 0 0 0 0 0 0 0 0 0 $(($2 / 256)) $(($2 % 256)) 0 0 0 0 0 11 71 "$3" 0 0 0 "$4" 0 0 0 "${5:-0}" 0 0 0 "${6:-0}" 0 0 0 "${7:-0}" 0 0 0 "${8:-0}"; zeros 4052; }
 # root_with AT BYTE: a page of three rows in Left with another byte at a place.
 root_with() { root 3 120 239 3 | head -c "$1"; bytes "$2"; root 3 120 239 3 | tail -c +$(($1 + 2)); }
 
@@ -30,7 +30,7 @@ lines "$x2" > modifications-2024-03-02.txt
 printf '3\tC\tgone\n' > deletes-2024-03-02.txt
 lines "$d4" > modifications-2024-03-03.txt
 : > deletes-2024-03-03.txt
-no_alternates
+empty_others
 # areas_are ROOT LEFT RIGHT: the files' bytes, each a file's name; no text where it is empty.
 areas_are() {
     check "$1 the gate" "$(od -An -tu1 mirror.mark)" '   0'
@@ -128,6 +128,48 @@ cp ../both mirror.left
 check both_lists "$("$program" serve <<< $'search name_equals=eins\nsearch name_equals=zwei\nsearch'; echo "status $?")" "$a1"$'\nok 1\n'"$b2"$'\nok 1\n'"$b2"$'\n'"$a1"$'\nok 2\nstatus 0'
 cd ..
 
+# Five tables, one list behind the other: rows and alternates by id, links by child, class of the type and parent, countries and
+# admin codes by code. The files have them in another order, with comments and with lines that are replaced.
+l1=$'1\t2\tADM' l2=$'3\t2\tADM' l3=$'1\t2' l4=$'1\t2\tother' l5=$'2\t10\tADM'
+k1=$'A1\t\t\t\t\t\t\t\t\t\t\t\t\t\t\t\t1' k2=$'AA\t\t\t\t\t\t\t\t\t\t\t\t\t\t\t\t2' k3=$'AAA\t\t\t\t\t\t\t\t\t\t\t\t\t\t\t\t3'
+m1=$'AA.01\tOne\tOne\t2' m2=$'AA.01.001\tTwo\tTwo\t3' m3=$'AA.1\tThree\tThree\t1'
+lines "$a1" "$b2" "$e1" "$z2" "$l1" "$l2" "$l3" "$l4" "$l5" "$k1" "$k2" "$k3" "$m1" "$m2" "$m3" > five_tables
+size=$(stat -c %s five_tables)
+fresh five
+lines "$b2" "$a1" > allCountries.txt
+lines "$z2" "$e1" > alternateNamesV2.txt
+lines "$l5" $'1\t2\tANY' "$l3" "$l2" "$l4" "$l1" > hierarchy.txt
+lines '# a comment' "$k3" '' "$k1" "${k2%2}7" "$k2" '#' > countryInfo.txt
+lines "$m3" "$m1" $'AA.01.001\t\t\t' > admin1CodesASCII.txt
+lines "$m2" > admin2Codes.txt
+lines "$c3" > modifications-2024-03-02.txt
+: > deletes-2024-03-02.txt
+empty_others
+check a_load_of_six_files "$("$program" serve <<< 'load 2024-03-01')" 'ok load 2024-03-01'
+root 3 "$size" 239 2 2 5 3 3 > ../r
+: > ../n
+areas_are a_load_of_six_files ../r ../five_tables ../n
+check a_day_leaves_links_countries_and_codes "$("$program" serve <<< 'day 2024-03-02')" 'ok day 2024-03-02'
+root 4 $((size + 40)) 240 3 2 5 3 3 > ../r2
+{ head -n 2 ../five_tables; lines "$c3"; tail -n +3 ../five_tables; } > ../m
+areas_are a_day_over_five_tables ../r2 ../five_tables ../m
+cd ..
+# The same, spelled by hand: it is opened, and asked.
+fresh five_by_hand
+cp ../r mirror.root
+{ zeros 4096; cat ../five_tables; } > mirror.left
+check five_by_hand "$("$program" serve <<< $'hierarchy 2\nchildren 1\nadmin AA.01.001\nadmin AA\nsearch name_equals=zwei\nday 2000-01-01'; echo "status $?")" \
+    "$a1"$'\n'"$b2"$'\nok 2\n'"$b2"$'\nok 1\n'"$m2"$'\nok 1\nok 0\n'"$b2"$'\nok 1\nrefused sequence 2024-03-01\nstatus 0'
+cd ..
+# A mirror of rows alone or of rows and alternates has no links, countries and codes, until a load brings some.
+for name in earlier both_lists; do
+    cd "$name" || exit 1
+    check "$name has no chain" "$("$program" serve <<< $'hierarchy 2\nchildren 1\nadmin AA.01'; echo "status $?")" "$b2"$'\nok 1\nok 0\nok 0\nstatus 0'
+    cp ../five/*.txt .
+    check "$name takes a load" "$("$program" serve <<< $'load 2024-03-01\nhierarchy 2\nadmin AA.01'; echo "status $?")" $'ok load 2024-03-01\n'"$a1"$'\n'"$b2"$'\nok 2\n'"$m1"$'\nok 1\nstatus 0'
+    cd ..
+done
+
 # Fewer bytes than a page are no root page.
 nothing=$'refused notloaded\nrefused notloaded\nrefused notloaded\nrefused notloaded'
 head -c 4095 root_of_three > cut_root
@@ -173,6 +215,43 @@ hostile_text 'an alternate more than counted' 106 '2 1' "$a1" "$b2" "$e1" "$z2"
 hostile_text 'an alternate fewer than counted' 106 '2 3' "$a1" "$b2" "$e1" "$z2"
 hostile_text 'an alternate without a place' 105 '2 2' "$a1" "$b2" "$e1" $'11\t\tde\tZwei'
 
+# hostile_five NAME NUMBERS SCRIPT: the five tables with these numbers, after this script of awk.
+hostile_five() {
+    local name=$1 counts=$2
+    awk "$3" five_tables > hostile_lines
+    # shellcheck disable=SC2086 # the counts are words
+    root 3 "$(stat -c %s hostile_lines)" 239 $counts > hostile_root
+    { zeros 4096; cat hostile_lines; } > hostile_left
+    refuses "$name" hostile_root hostile_left
+}
+swapped() { printf 'NR == %d { held = $0; next } { print } NR == %d { print held }' "$1" $(($1 + 1)); }
+for line in 5 6 7 8; do hostile_five "links $line and more out of order" '2 2 5 3 3' "$(swapped $line)"; done
+for line in 10 11; do hostile_five "countries $line and more out of order" '2 2 5 3 3' "$(swapped $line)"; done
+for line in 13 14; do hostile_five "codes $line and more out of order" '2 2 5 3 3' "$(swapped $line)"; done
+hostile_five 'a link twice' '2 2 6 3 3' '{ print } NR == 5'
+hostile_five 'another type of one class' '2 2 6 3 3' '{ print } NR == 8 { print "1\t2\tyet another" }'
+hostile_five 'a country twice' '2 2 5 4 3' '{ print } NR == 11'
+hostile_five 'a code twice' '2 2 5 3 4' '{ print } NR == 15'
+hostile_five 'a comment among the countries' '2 2 5 4 3' 'NR == 10 { print "# a comment" } { print }'
+hostile_five 'an empty line among the countries' '2 2 5 4 3' 'NR == 10 { print "" } { print }'
+hostile_five 'an empty line among the codes' '2 2 5 3 4' 'NR == 13 { print "" } { print }'
+hostile_five 'a country in small letters' '2 2 5 3 3' 'NR == 12 { $0 = "a" substr($0, 2) } { print }'
+hostile_five 'a link without a child' '2 2 5 3 3' 'NR == 9 { $0 = "2\t\tADM" } { print }'
+hostile_five 'a code without its column' '2 2 5 3 3' 'NR == 15 { $0 = "AA.1\tThree\tThree" } { print }'
+hostile_five 'a link among the countries' '2 2 4 4 3' '{ print }'
+hostile_five 'a country among the links' '2 2 6 2 3' '{ print }'
+hostile_five 'an alternate among the links' '2 1 6 3 3' '{ print }'
+hostile_five 'a code among the countries' '2 2 5 4 2' '{ print }'
+hostile_five 'a code more than counted' '2 2 5 3 2' '{ print }'
+hostile_five 'a code fewer than counted' '2 2 5 3 4' '{ print }'
+hostile_five 'the countries before the links' '2 2 5 3 3' 'NR >= 5 && NR <= 9 { links = links $0 "\n"; next } { print } NR == 12 { printf "%s", links }'
+# A row has as many columns as a code needs, so where the numbers say so it is one.
+fresh a_row_as_a_code
+root 3 120 239 2 0 0 0 1 > mirror.root
+cp ../three mirror.left
+check a_row_as_a_code "$("$program" serve <<< $'get 2\nget 3\nadmin 3'; echo "status $?")" "$b2"$'\nok 1\nok 0\n'"$c3"$'\nok 1\nstatus 0'
+cd ..
+
 # Root pages that are none, or that name another text.
 hostile_root() {
     cat > hostile_root
@@ -189,7 +268,8 @@ root_with 8 1 | hostile_root 'a length of 2^56 more'
 root_with 20 1 | hostile_root 'a date past the last'
 root_with 31 1 | hostile_root 'an alternate beside all rows'
 { root 3 120 239 2 | head -c 31; bytes 1; zeros 4064; } | hostile_root 'an alternate in place of a row'
-{ root 3 120 239 2 | head -c 43; bytes 1; zeros 4052; } | hostile_root 'a code in place of a row'
+root 3 120 239 2 0 1 | hostile_root 'a link in place of a row'
+root 3 120 239 2 0 0 1 | hostile_root 'a country in place of a row'
 root_with 44 1 | hostile_root 'a byte behind the counts'
 root_with 4095 1 | hostile_root 'the last byte of the page'
 root 3 0 239 0 > hostile_root
@@ -214,7 +294,7 @@ made() { awk -v last="$1" -v step="$2" -v more="$3" -v line="$(row '' 'Place ' '
 made 2000 1 0 > allCountries.txt
 made 2000 10 1000000 > modifications-2024-03-02.txt
 seq 100 100 2000 > deletes-2024-03-02.txt
-no_alternates
+empty_others
 seq 1 2000 | sed 's/^/get /' > ../gets
 sed 's/$/\nok 1/' allCountries.txt > ../loaded
 awk -F '\t' 'NR == FNR { changed[$1] = $0; next } $1 % 100 == 0 { print "ok 0"; next } { print ($1 in changed) ? changed[$1] : $0; print "ok 1" }' modifications-2024-03-02.txt allCountries.txt > ../changed

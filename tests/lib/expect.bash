@@ -39,11 +39,16 @@ check() {
 # row ID NAME POPULATION: a geoname line of class P in country AA, without its LF.
 row() { printf '%s\t%s\t\t\t0\t0\tP\tPPL\tAA\t\t\t\t\t\t%s\t\t\t\t2024-02-01' "$1" "$2" "$3"; }
 
-# no_alternates [FOLDER]: makes the files of alternate names empty, beside the others of a load and of each day in this folder, but
-# for those that are there.
-no_alternates() {
+# The files of a load, in the order in which they are read.
+load_files=(allCountries.txt alternateNamesV2.txt hierarchy.txt countryInfo.txt admin1CodesASCII.txt admin2Codes.txt)
+
+# empty_others [FOLDER]: makes the other files of a load and of each day in this folder empty, where there is a dump or there are
+# modifications of that date, but for those that are there.
+empty_others() {
     local at=${1:-.} file date kind
-    [ ! -e "$at/allCountries.txt" ] || [ -e "$at/alternateNamesV2.txt" ] || : > "$at/alternateNamesV2.txt"
+    if [ -e "$at/allCountries.txt" ]; then
+        for file in "${load_files[@]}"; do [ -e "$at/$file" ] || : > "$at/$file"; done
+    fi
     for file in "$at"/modifications-*.txt; do
         date=${file##*/modifications-}
         for kind in alternateNamesModifications alternateNamesDeletes; do
@@ -53,7 +58,7 @@ no_alternates() {
 }
 
 # made_files: the files of this folder but for those of the export.
-made_files() { ls -A | grep -v -e '^allCountries.txt$' -e '^modifications-' -e '^deletes-' -e '^alternateNames'; }
+made_files() { ls -A | grep -v -x -F -e "$(printf '%s\n' "${load_files[@]}")" | grep -v -e '^modifications-' -e '^deletes-' -e '^alternateNames'; }
 
 finish() {
     echo "$passed passed, $failed failed"

@@ -4,8 +4,8 @@ use crate::runs::{
     replies_within, serve_on,
 };
 use crate::worked::{
-    ALT_DELETES, ALT_MODIFICATIONS, ALTERNATES, B2, C3, DELETES, DUMP, MODIFICATIONS, OneByte,
-    joined, shelf_of, source_of, station_of, words_of,
+    ADMIN1, ADMIN2, ALT_DELETES, ALT_MODIFICATIONS, ALTERNATES, B2, C3, COUNTRIES, DELETES, DUMP,
+    LINKS, MODIFICATIONS, OneByte, joined, shelf_of, source_of, station_of, words_of,
 };
 use gaz_outside::{MemStation, Source};
 use gaz_serve::serve;
@@ -71,25 +71,37 @@ fn told_without(alloc: Global, file: &str, changes: u64) -> Result<Vec<u8>, Allo
 }
 
 /// The calls of the shelf: a load and a day open their files, and then read each twice, up to its end.
-const CALLS: [(u64, &str, u64); 18] = [
+const CALLS: [(u64, &str, u64); 30] = [
     (1, DUMP, 0),
     (2, ALTERNATES, 0),
-    (3, DUMP, 0),
-    (4, DUMP, 0),
-    (5, ALTERNATES, 0),
-    (6, ALTERNATES, 0),
-    (7, MODIFICATIONS, 1),
-    (8, DELETES, 1),
-    (9, ALT_MODIFICATIONS, 1),
-    (10, ALT_DELETES, 1),
-    (11, MODIFICATIONS, 1),
-    (12, MODIFICATIONS, 1),
-    (13, DELETES, 1),
-    (14, DELETES, 1),
-    (15, ALT_MODIFICATIONS, 1),
-    (16, ALT_MODIFICATIONS, 1),
-    (17, ALT_DELETES, 1),
-    (18, ALT_DELETES, 1),
+    (3, LINKS, 0),
+    (4, COUNTRIES, 0),
+    (5, ADMIN1, 0),
+    (6, ADMIN2, 0),
+    (7, DUMP, 0),
+    (8, DUMP, 0),
+    (9, ALTERNATES, 0),
+    (10, ALTERNATES, 0),
+    (11, LINKS, 0),
+    (12, LINKS, 0),
+    (13, COUNTRIES, 0),
+    (14, COUNTRIES, 0),
+    (15, ADMIN1, 0),
+    (16, ADMIN1, 0),
+    (17, ADMIN2, 0),
+    (18, ADMIN2, 0),
+    (19, MODIFICATIONS, 1),
+    (20, DELETES, 1),
+    (21, ALT_MODIFICATIONS, 1),
+    (22, ALT_DELETES, 1),
+    (23, MODIFICATIONS, 1),
+    (24, MODIFICATIONS, 1),
+    (25, DELETES, 1),
+    (26, DELETES, 1),
+    (27, ALT_MODIFICATIONS, 1),
+    (28, ALT_MODIFICATIONS, 1),
+    (29, ALT_DELETES, 1),
+    (30, ALT_DELETES, 1),
 ];
 
 /// The run over a shelf whose call with this number fails tells this text, and leaves so many changes.
@@ -121,7 +133,7 @@ fn each_call_of_the_shelf_that_fails_refuses_its_request_alone(
         let text = told_without(alloc, file, changes)?;
         expect_told(&rt, alloc, call, &text, changes)?;
     }
-    expect_told(&rt, alloc, 19, REPLIES, 2)
+    expect_told(&rt, alloc, 31, REPLIES, 2)
 }
 
 /// Runs the requests over this source, and answers the station and the status.

@@ -1,8 +1,8 @@
 //! Runs during which the files in the folder change: each request meets them as they are during it.
 use crate::runs::FILES;
 use crate::worked::{
-    A1, ALT_DELETES, ALT_MODIFICATIONS, ALTERNATES, B2, DELETES, DUMP, File, MODIFICATIONS, X2,
-    joined, source_of, station_of, words_of,
+    A1, ADMIN1, ADMIN2, ALT_DELETES, ALT_MODIFICATIONS, ALTERNATES, B2, COUNTRIES, DELETES, DUMP,
+    File, LINKS, MODIFICATIONS, X2, joined, source_of, station_of, words_of,
 };
 use gaz_outside::{MemShelf, MemStation};
 use gaz_serve::serve;
@@ -19,6 +19,21 @@ fn listed(alloc: Global, files: &[File<'_>]) -> Result<Listed, AllocError> {
         all.push((String::from_str(alloc, name)?, joined(alloc, pieces)?))?;
     }
     Ok(all)
+}
+
+/// The files of a load, with this dump and nothing else.
+fn dump_alone(alloc: Global, dump: &[&str]) -> Result<Listed, AllocError> {
+    listed(
+        alloc,
+        &[
+            (DUMP, dump),
+            (ALTERNATES, &[]),
+            (LINKS, &[]),
+            (COUNTRIES, &[]),
+            (ADMIN1, &[]),
+            (ADMIN2, &[]),
+        ],
+    )
 }
 
 /// Runs these requests over a shelf that has the first of these files, and after each request that opens files the next ones.
@@ -52,7 +67,7 @@ fn files_of_a_day_come_between_two_requests(rt: HostRuntime) -> Result<(), Fail>
     }
     let (station, status) = run_over(
         alloc,
-        listed(alloc, &[(DUMP, &[A1, B2]), (ALTERNATES, &[])])?,
+        dump_alone(alloc, &[A1, B2])?,
         later,
         b"load 2024-03-01\nday 2024-03-02\nday 2024-03-02\nday 2024-03-02\nday 2024-03-02\nday 2024-03-02\nget 2\n",
     )?;
@@ -69,7 +84,7 @@ fn files_of_a_day_come_between_two_requests(rt: HostRuntime) -> Result<(), Fail>
 fn dump_is_replaced_between_two_loads(rt: HostRuntime) -> Result<(), Fail> {
     let alloc = rt.alloc();
     let mut later = Vec::new(alloc);
-    later.push(listed(alloc, &[(DUMP, &[X2]), (ALTERNATES, &[])])?)?;
+    later.push(dump_alone(alloc, &[X2])?)?;
     later.push(Vec::new(alloc))?;
     let (station, status) = run_over(
         alloc,

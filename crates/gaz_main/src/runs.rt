@@ -1,17 +1,21 @@
 //! Runs of `serve` over a station in memory, and what a next run finds there.
 use crate::worked::{
-    A1, ALT_DELETES, ALT_MODIFICATIONS, ALTERNATES, B2, C3, DELETES, DUMP, File, MODIFICATIONS, X2,
-    shelf_of, source_of, words_of,
+    A1, ADMIN1, ADMIN2, ALT_DELETES, ALT_MODIFICATIONS, ALTERNATES, B2, C3, COUNTRIES, DELETES,
+    DUMP, File, LINKS, MODIFICATIONS, X2, shelf_of, source_of, words_of,
 };
 use gaz_outside::{Area, MemStation};
 use gaz_serve::serve;
 use std::alloc::{AllocError, Global};
 
-/// The files of a load, and of the day after it, which changes row 2, deletes row 3, gives row 2 an alternate name and takes
-/// that of row 1.
+/// The files of a load, in which row 1 stands above row 2 and row 2 above row 3, and of the day after it, which changes row 2,
+/// deletes row 3, gives row 2 an alternate name and takes that of row 1.
 pub(crate) const FILES: &[File<'static>] = &[
     (DUMP, &[A1, B2, C3]),
     (ALTERNATES, &["10\t1\tde\tEins\n"]),
+    (LINKS, &["1\t2\tADM\n", "2\t3\n"]),
+    (COUNTRIES, &["# a comment\n", "BB\t\t\t\t\t\t\t\t\t\t\t\t\t\t\t\t3\n"]),
+    (ADMIN1, &["AA.01\tOne\tOne\t2\n"]),
+    (ADMIN2, &["AA.01.001\tTwo\tTwo\t3\n"]),
     (MODIFICATIONS, &[X2]),
     (DELETES, &["3\tC\tgone\n"]),
     (ALT_MODIFICATIONS, &["11\t2\tde\tZwei\n"]),
@@ -67,21 +71,21 @@ pub(crate) fn serve_on(
 
 /// Requests that change nothing: the last is refused, and tells the date.
 const QUESTIONS: &[u8] =
-    b"get 1\nget 2\nget 3\nsearch name_equals=eins\nsearch name_equals=zwei\nday 0000-01-01\n";
+    b"get 1\nget 2\nget 3\nsearch name_equals=eins\nsearch name_equals=zwei\nhierarchy 2\nchildren 2\nadmin AA.01\nday 0000-01-01\n";
 
 /// What they print where no change was made, the load, and the load and the day.
 const ANSWERS: [(u64, &[u8]); 3] = [
     (
         0,
-        b"refused notloaded\nrefused notloaded\nrefused notloaded\nrefused notloaded\nrefused notloaded\nrefused notloaded\n",
+        b"refused notloaded\nrefused notloaded\nrefused notloaded\nrefused notloaded\nrefused notloaded\nrefused notloaded\nrefused notloaded\nrefused notloaded\nrefused notloaded\n",
     ),
     (
         1,
-        b"1\tA\t\t\t0\t0\tP\tPPL\tAA\t\t\t\t\t\t1\t\t\t\t2024-02-01\nok 1\n2\tB\t\t\t0\t0\tP\tPPL\tAA\t\t\t\t\t\t2\t\t\t\t2024-02-01\nok 1\n3\tC\t\t\t0\t0\tP\tPPL\tAA\t\t\t\t\t\t3\t\t\t\t2024-02-01\nok 1\n1\tA\t\t\t0\t0\tP\tPPL\tAA\t\t\t\t\t\t1\t\t\t\t2024-02-01\nok 1\nok 0\nrefused sequence 2024-03-01\n",
+        b"1\tA\t\t\t0\t0\tP\tPPL\tAA\t\t\t\t\t\t1\t\t\t\t2024-02-01\nok 1\n2\tB\t\t\t0\t0\tP\tPPL\tAA\t\t\t\t\t\t2\t\t\t\t2024-02-01\nok 1\n3\tC\t\t\t0\t0\tP\tPPL\tAA\t\t\t\t\t\t3\t\t\t\t2024-02-01\nok 1\n1\tA\t\t\t0\t0\tP\tPPL\tAA\t\t\t\t\t\t1\t\t\t\t2024-02-01\nok 1\nok 0\n1\tA\t\t\t0\t0\tP\tPPL\tAA\t\t\t\t\t\t1\t\t\t\t2024-02-01\n2\tB\t\t\t0\t0\tP\tPPL\tAA\t\t\t\t\t\t2\t\t\t\t2024-02-01\nok 2\n3\tC\t\t\t0\t0\tP\tPPL\tAA\t\t\t\t\t\t3\t\t\t\t2024-02-01\nok 1\nAA.01\tOne\tOne\t2\nok 1\nrefused sequence 2024-03-01\n",
     ),
     (
         2,
-        b"1\tA\t\t\t0\t0\tP\tPPL\tAA\t\t\t\t\t\t1\t\t\t\t2024-02-01\nok 1\n2\tX\t\t\t0\t0\tP\tPPL\tAA\t\t\t\t\t\t9\t\t\t\t2024-02-01\nok 1\nok 0\nok 0\n2\tX\t\t\t0\t0\tP\tPPL\tAA\t\t\t\t\t\t9\t\t\t\t2024-02-01\nok 1\nrefused sequence 2024-03-02\n",
+        b"1\tA\t\t\t0\t0\tP\tPPL\tAA\t\t\t\t\t\t1\t\t\t\t2024-02-01\nok 1\n2\tX\t\t\t0\t0\tP\tPPL\tAA\t\t\t\t\t\t9\t\t\t\t2024-02-01\nok 1\nok 0\nok 0\n2\tX\t\t\t0\t0\tP\tPPL\tAA\t\t\t\t\t\t9\t\t\t\t2024-02-01\nok 1\n1\tA\t\t\t0\t0\tP\tPPL\tAA\t\t\t\t\t\t1\t\t\t\t2024-02-01\n2\tX\t\t\t0\t0\tP\tPPL\tAA\t\t\t\t\t\t9\t\t\t\t2024-02-01\nok 2\nok 0\nAA.01\tOne\tOne\t2\nok 1\nrefused sequence 2024-03-02\n",
     ),
 ];
 

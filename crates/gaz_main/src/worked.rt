@@ -17,6 +17,14 @@ pub(crate) const DUMP: &str = "allCountries.txt";
 
 pub(crate) const ALTERNATES: &str = "alternateNamesV2.txt";
 
+pub(crate) const LINKS: &str = "hierarchy.txt";
+
+pub(crate) const COUNTRIES: &str = "countryInfo.txt";
+
+pub(crate) const ADMIN1: &str = "admin1CodesASCII.txt";
+
+pub(crate) const ADMIN2: &str = "admin2Codes.txt";
+
 pub(crate) const MODIFICATIONS: &str = "modifications-2024-03-02.txt";
 
 pub(crate) const DELETES: &str = "deletes-2024-03-02.txt";
