@@ -146,11 +146,7 @@ pub fn out_of_order(rt: &impl Print, alloc: Global) -> Result<(), Stopped> {
         must(tree.put(&mut pages, &id_key(id), 7))?;
     }
     // The page that `empty` took is still the first leaf.
-    let mut leaf = [0; PAGE];
-    match pages.read(1) {
-        Ok(bytes) => leaf.copy_from_slice(bytes),
-        Err(fault) => return Err(Stopped::Pages(fault)),
-    }
+    let leaf = copy_of(&mut pages, 1)?;
     check(leaf[0] == 1, "the first leaf")?;
     must(pages.write(1, &with_great_key(leaf)))?;
     for id in 0..103 {
@@ -180,11 +176,7 @@ pub fn trees(rt: &impl Print, alloc: Global) -> Result<(), Stopped> {
     }
     check(tree.height == 2, "a tree of 103 keys")?;
     let before = tree;
-    let mut top = [0; PAGE];
-    match pages.read(tree.top) {
-        Ok(bytes) => top.copy_from_slice(bytes),
-        Err(fault) => return Err(Stopped::Pages(fault)),
-    }
+    let top = copy_of(&mut pages, tree.top)?;
     // The topmost page leads back to itself, where a leaf is looked for.
     must(pages.write(tree.top, &with_first_child(top, tree.top)))?;
     check(
@@ -218,4 +210,87 @@ pub fn trees(rt: &impl Print, alloc: Global) -> Result<(), Stopped> {
         "a tree of no height",
     )?;
     printed(println!(rt; "damaged trees: 5 told by their pages"))
+}
+
+/// A page with another number than its own.
+fn with_number(page: [u8; PAGE], number: u32) -> [u8; PAGE] {
+    let mut changed = page;
+    changed[4..8].copy_from_slice(&number.to_be_bytes());
+    changed
+}
+
+/// Whether each call that comes to this page on the way to the least key names it: a get, a put, a removal and a scan.
+fn all_name(pages: &mut MemPages, tree: Tree, page: u32) -> bool {
+    let mut changed = tree;
+    let mut scan = Scan::over(tree, [0; 32], [255; 32]);
+    names(tree.get(pages, &id_key(0)), page)
+        && names(changed.put(pages, &id_key(0), 8), page)
+        && names(changed.remove(pages, &id_key(0)), page)
+        && names(scan.next(pages), page)
+        && changed == tree
+}
+
+/// Whether a scan gives so many pairs, and then names this page, each time that it is asked again.
+fn scan_names(pages: &mut MemPages, tree: Tree, pairs: u16, page: u32) -> Result<bool, Stopped> {
+    let mut scan = Scan::over(tree, [0; 32], [255; 32]);
+    for _ in 0..pairs {
+        if must(scan.next(pages))? == None {
+            return Ok(false);
+        }
+    }
+    Ok(names(scan.next(pages), page) && names(scan.next(pages), page))
+}
+
+/// A copy of a page.
+fn copy_of(pages: &mut MemPages, page: u32) -> Result<[u8; PAGE], Stopped> {
+    let mut copy = [0; PAGE];
+    match pages.read(page) {
+        Ok(bytes) => copy.copy_from_slice(bytes),
+        Err(fault) => return Err(Stopped::Pages(fault)),
+    }
+    Ok(copy)
+}
+
+/// A tree of 103 keys, which one leaf hasn't room for: its topmost page, its first leaf and the one behind it get each other's numbers in turn.
+pub fn numbers(rt: &impl Print, alloc: Global) -> Result<(), Stopped> {
+    let mut pages = MemPages::new(Vec::new(alloc));
+    let mut tree = must(Tree::empty(&mut pages))?;
+    for id in 0..103 {
+        must(tree.put(&mut pages, &id_key(id), 7))?;
+    }
+    check(tree.height == 2, "a tree of 103 keys")?;
+    let top = copy_of(&mut pages, tree.top)?;
+    must(pages.write(tree.top, &with_number(top, 1)))?;
+    check(
+        all_name(&mut pages, tree, tree.top),
+        "an inner page with a wrong number",
+    )?;
+    must(pages.write(tree.top, &top))?;
+
+    // The first entry's child stands at byte 48, the second one's 36 bytes on.
+    let first = u32::from_be_bytes([top[48], top[49], top[50], top[51]]);
+    let second = u32::from_be_bytes([top[84], top[85], top[86], top[87]]);
+    let leaf = copy_of(&mut pages, first)?;
+    must(pages.write(first, &with_number(leaf, second)))?;
+    check(
+        all_name(&mut pages, tree, first),
+        "a leaf with a wrong number",
+    )?;
+    must(pages.write(first, &leaf))?;
+
+    let behind = copy_of(&mut pages, second)?;
+    must(pages.write(second, &with_number(behind, first)))?;
+    let pairs = u16::from_be_bytes([leaf[2], leaf[3]]);
+    check(
+        scan_names(&mut pages, tree, pairs, second)?,
+        "a scan that comes to a leaf with a wrong number",
+    )?;
+    must(pages.write(second, &behind))?;
+    check(
+        must(tree.get(&mut pages, &id_key(0)))? == Some(7),
+        "the pages with their own numbers again",
+    )?;
+    printed(println!(rt;
+        "pages with another's number: a get, a put, a removal and a scan name each"
+    ))
 }

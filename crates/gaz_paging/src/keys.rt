@@ -8,6 +8,9 @@ use std::alloc::Global;
 use std::collections::BTreeMap;
 use std::io::Print;
 
+/// The most pairs of a tree of height 2: 113 leaves of 102.
+const MOST_OF_TWO: usize = 113 * 102;
+
 /// Whether a scan of all keys gives what the map has, and then none.
 fn is_same(pages: &mut MemPages, tree: Tree, map: &BTreeMap<u32, u64>) -> Result<bool, Stopped> {
     let mut scan = Scan::over(tree, [0; 32], [255; 32]);
@@ -26,6 +29,7 @@ pub fn beside_a_map(rt: &impl Print, alloc: Global) -> Result<(), Stopped> {
     let mut map: BTreeMap<u32, u64> = BTreeMap::new(alloc);
     let mut x: u64 = 1;
     let mut highest = 1;
+    let mut longest = 0;
     for moment in 0..10u32 {
         for _ in 0..10000 {
             x = next(x);
@@ -44,8 +48,11 @@ pub fn beside_a_map(rt: &impl Print, alloc: Global) -> Result<(), Stopped> {
             }
         }
         highest = tree.height.max(highest);
+        longest = map.len().max(longest);
         check(is_same(&mut pages, tree, &map)?, "the pairs beside the map")?;
     }
+    // So many pairs need height 3, and of 20,000 keys no more than that comes: at height 4 a tree has 2 * 56 * 56 * 51 = 319,872 pairs or more.
+    check(longest > MOST_OF_TWO, "the pairs of the longest list")?;
     check(highest == 3, "the height")?;
     printed(println!(rt; "100000 puts and removals beside a map: ten lists are the same"))
 }
@@ -79,7 +86,8 @@ fn put_all(alloc: Global, many: u32, order: u32) -> Result<u8, Stopped> {
     Ok(tree.height)
 }
 
-/// Rising, falling and scattered keys, at heights 1 to 3.
+/// Rising, falling and scattered keys, at heights 1 to 3. However full the leaves are: a leaf has room for 102 pairs, and no leaf is split before it
+/// is full; at height 2 a tree has at most 113 * 102 = 11,526, at height 3 at least 2 * 56 * 51 = 5,712, at height 4 at least 2 * 56 * 56 * 51.
 pub fn in_order(rt: &impl Print, alloc: Global) -> Result<(), Stopped> {
     for order in 0..3 {
         check(put_all(alloc, 102, order)? == 1, "102 keys")?;

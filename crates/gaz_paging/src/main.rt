@@ -44,6 +44,7 @@ fn trial(rt: &HostRuntime) -> Result<(), Stopped> {
     ranges::parts(rt, rt.alloc())?;
     failing::each_call_of_a_tree(rt, rt.alloc())?;
     damage::trees(rt, rt.alloc())?;
+    damage::numbers(rt, rt.alloc())?;
     damage::out_of_order(rt, rt.alloc())
 }
 

@@ -19,7 +19,7 @@ use Rattle.gaz_tables.specs.declared.link.LinkClass.{LinkClass}
 use Rattle.gaz_tables.specs.Keys.{class_number}
 use Rattle.gaz_parent.specs.Parent.{is_this, first_some, least, may_be, is_link, names}
 use Rattle.gaz_pick.proofs.OrderLemmas.{by_test}
-use Rattle.gaz_plain.specs.Gazetteer.{IsLine, IsTable, KeysRise, key_of, key_cmp, line_at}
+use Rattle.gaz_plain.specs.Gazetteer.{IsLine, KeysRise, key_of, key_cmp, line_at}
 use Rattle.gaz_plain.specs.Keys.{compares_alone}
 use Rattle.gaz_plain.proofs.KeyOrder.{key_ties, All-rest}
 use Rattle.gaz_plain.proofs.Selected.{key_is_id}
@@ -52,22 +52,6 @@ module _ (may : List ℕ → Bool) where
       (ap (λ found. Some (unwrap_or (option_map (min (id_of row)) found) (id_of row))) more
       ∙ ap Some (min_first (id_of row) rows (λ k d below. ids_rise row (get_or rows k d) (lines 0 d (omega arith)) (lines (suc k) d (omega (arith, below))) (rise 0 (suc k) d (omega arith) (omega (arith, below)))))))
       (λ isnt. rw isnt more)
-
-module _ (may : List ℕ → Bool) (rows : List (List ℕ)) where
-  -- what is found among all is found among those that are still to come
-  abbrev pub IsAmong : List (List ℕ) → Type 0
-  IsAmong rest = find may rows ≡ find may rest
-
-  pub passed_over : (row : List ℕ) (before rest : List (List ℕ)) → before ≡ row ∷ rest → may row ≡ false → IsAmong before → IsAmong rest
-  passed_over row before rest steps isnt among = among ∙ ap (find may) steps ∙ rw isnt refl
-
-  pub first_taken : (row : List ℕ) (before rest : List (List ℕ)) → before ≡ row ∷ rest → may row ≡ true → IsAmong before → IsTable Rows rows → Some (id_of row) ≡ least (map id_of (filter may rows))
-  first_taken row before rest steps is among table =
-      let found : find may (row ∷ rest) ≡ Some row = rw is refl in
-      sym (least_first may rows table.each table.rising ∙ ap (option_map id_of) (among ∙ ap (find may) steps ∙ found))
-
-  pub none_taken : (rest : List (List ℕ)) → rest ≡ [] → IsAmong rest → IsTable Rows rows → None ≡ least (map id_of (filter may rows))
-  none_taken rest ends among table = sym (least_first may rows table.each table.rising ∙ ap (option_map id_of) (among ∙ ap (find may) ends))
 
 -- tests that agree find the same
 pub find_same : (p q : List ℕ → Bool) → ((row : List ℕ) → p row ≡ q row) → (rows : List (List ℕ)) → find p rows ≡ find q rows

@@ -1,4 +1,5 @@
 mod Examples
+mod WorkedChains
 pub mod KeyOrder
 pub mod Tables
 pub mod OneLine
@@ -20,3 +21,9 @@ pub mod Foremost
 pub mod Climbed
 pub mod Named
 pub mod Upwards
+pub mod OrderedLemmas
+pub mod Numbered
+pub mod Linked
+pub mod Sought
+pub mod Below
+pub mod Offering

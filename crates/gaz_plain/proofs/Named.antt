@@ -18,7 +18,7 @@ use Rattle.gaz_plain.specs.Kin.{lists_of, chain_of}
 use Rattle.gaz_plain.proofs.Foremost.{least_first, find_same, row_at, found_id, place_named, named, other_with, none_with, not_itself, another_with}
 
 -- a line that is found is one of all
-found_line_is : (key row : List ℕ) (rows : List (List ℕ)) → All (IsLine Row) rows → line_at Rows key rows ≡ Some row → IsLine Row row
+pub found_line_is : (key row : List ℕ) (rows : List (List ℕ)) → All (IsLine Row) rows → line_at Rows key rows ≡ Some row → IsLine Row row
 found_line_is key row [] are found = cc
 found_line_is key row (r ∷ rs) are found =
     by_test (is_eq (key_cmp (key_of Rows r) key))

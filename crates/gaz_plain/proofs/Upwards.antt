@@ -1,7 +1,8 @@
 -- Each id of a chain has its row, and each pair of children.
-use Rattle.std.proofs.Common.{◌≡◌, ℕ, zero, suc, Bool, true, false, true≢false, List, [], ◌∷◌, map, get_or, refl, sym, ap, ap₂, subst, ◌∙◌, Option, Some, None, eq-eqb}
+use Rattle.std.proofs.Common.{◌≡◌, ℕ, zero, suc, true, true≢false, List, [], ◌∷◌, map, refl, sym, ap, ap₂, subst, ◌∙◌, Option, Some, None, eq-eqb}
 use Rattle.std.specs.Prelude.{reverse, unwrap_or, option_map, option_and_then, Contains, ◌==◌, ◌||◌}
 use Rattle.std.specs.List.{list_any}
+use Rattle.std.proofs.lemmas.Bool.{or_right}
 use Rattle.std.proofs.lemmas.Bool.Decides.{Decides-eqb}
 use Rattle.gaz_num.specs.declared.words.Table.TheVariants.{Rows}
 use Rattle.gaz_row.specs.Row.{id_of}
@@ -10,10 +11,11 @@ use Rattle.gaz_parent.specs.Chain.{row_with, parent_at, upwards, is_child}
 use Rattle.gaz_parent.proofs.Others.{parents_others}
 use Rattle.gaz_pick.specs.Match.{pair_of}
 use Rattle.gaz_pick.proofs.OrderLemmas.{by_test}
-use Rattle.gaz_plain.specs.Gazetteer.{Gazetteer, IsGazetteer, line_at, line_with}
+use Rattle.gaz_plain.specs.Gazetteer.{Gazetteer, IsGazetteer, line_with}
 use Rattle.gaz_plain.specs.Kin.{lists_of, chain_of, rows_with, hierarchy_of, children_pairs, children_of}
-use Rattle.gaz_plain.proofs.Selected.{key_is_id, found_by_key, cut_has_rows}
+use Rattle.gaz_plain.proofs.Selected.{cut_has_rows}
 use Rattle.gaz_plain.proofs.Climbed.{turned}
+use Rattle.gaz_plain.proofs.Sought.{all_found}
 use Rattle.gaz_plain.proofs.Named.{has_id, begins}
 
 module _ (gaz : Gazetteer) (is : IsGazetteer gaz) where
@@ -28,15 +30,11 @@ module _ (gaz : Gazetteer) (is : IsGazetteer gaz) where
 
   -- a row is found by its id
   lives : (id : ℕ) (row : List ℕ) → Contains gaz.rows row → id_of row ≡ id → IsLive id
-  lives id row at has =
-      let table = is.tables Rows in
-      let row_is : get_or gaz.rows at.0 row ≡ row = at.2 in
-      let key = key_is_id (get_or gaz.rows at.0 row) (table.each at.0 row at.1) ∙ ap (λ r. id_of r ∷ []) row_is ∙ ap (λ n. n ∷ []) has in
-      record {
-        row = row;
-        found = ap (λ key. line_at Rows key gaz.rows) (sym key) ∙ found_by_key Rows gaz.rows at.0 row table.rising at.1 ∙ ap Some row_is;
-        has = has;
-      }
+  lives id row at has = record {
+    row = row;
+    found = ap (λ n. line_with Rows (n ∷ []) gaz) (sym has) ∙ all_found gaz.rows row (is.tables Rows) at;
+    has = has;
+  }
 
   -- so a parent has its row
   parent_lives : (found : Option (List ℕ)) (n : ℕ) → option_and_then (parent_of (lists_of gaz)) found ≡ Some n → IsLive n
@@ -64,10 +62,6 @@ module _ (gaz : Gazetteer) (is : IsGazetteer gaz) where
 
   chain_live : (id : ℕ) → AreLive (chain_of gaz id)
   chain_live id = subst AreLive (sym (begins gaz is id (line_with Rows (id ∷ []) gaz) refl)) (upwards_live 64 [] (option_map (λ row. id) (line_with Rows (id ∷ []) gaz)) (first_live id (line_with Rows (id ∷ []) gaz) refl))
-
-  or_right : (a b : Bool) → b ≡ true → (a || b) ≡ true
-  or_right true b there = refl
-  or_right false b there = there
 
   rows_of_ids : (ids : List ℕ) → AreLive ids → map id_of (rows_with gaz ids) ≡ ids
   rows_of_ids [] live = refl

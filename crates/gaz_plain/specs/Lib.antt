@@ -12,4 +12,6 @@ pub mod Names
 pub mod Placed
 pub mod Search
 pub mod Kin
+pub mod Ordered
+pub mod Children
 pub mod Wanted

@@ -1,8 +1,8 @@
 //! Alternate names by their ids and by their places.
 use crate::PlainFault;
+use crate::ids_by_key::IdsByKey;
 use crate::key::AltId;
 use crate::line_list::{LineIter, LineList};
-use crate::place_order::PlaceOrder;
 use crate::wanted::Wanted;
 use gaz_alt::Alt;
 use gaz_num::Table;
@@ -13,7 +13,7 @@ use std::marker::Model;
 #[derive(Drop)]
 pub(crate) struct Alternates {
     list: LineList<AltId>,
-    order: PlaceOrder,
+    order: IdsByKey,
 }
 
 impl Model for Alternates {
@@ -44,7 +44,7 @@ impl Alternates {
     {
         Alternates {
             list: LineList::new(alloc),
-            order: PlaceOrder::new(alloc),
+            order: IdsByKey::new(alloc),
         }
     }
 
@@ -88,17 +88,17 @@ impl Alternates {
         }
         let place = Alt::of(line).place();
         let old = self.place_of(id);
-        let added = self.order.insert(place, id)?;
+        let added = self.order.insert(place as u64, id)?;
         if let Err(cause) = self.list.put(AltId(id), line) {
             if added {
-                self.order.remove(place, id);
+                self.order.remove(place as u64, id);
             }
             return Err(cause);
         }
         match old {
             Some(old) => {
                 if old != place {
-                    self.order.remove(old, id);
+                    self.order.remove(old as u64, id);
                 }
             }
             None => {}
@@ -114,7 +114,7 @@ impl Alternates {
         let old = self.place_of(id);
         self.list.take_out(&AltId(id));
         match old {
-            Some(place) => self.order.remove(place, id),
+            Some(place) => self.order.remove(place as u64, id),
             None => {}
         }
     }
@@ -129,13 +129,13 @@ impl Alternates {
         ensures err { OnErr result (self.new ≡ self.old) }
     {
         let place = Alt::of(line).place();
-        let added = self.order.insert(place, id)?;
+        let added = self.order.insert(place as u64, id)?;
         let appended = self.list.append(AltId(id), line);
         if let Ok(true) = appended {
             return Ok(true);
         }
         if added {
-            self.order.remove(place, id);
+            self.order.remove(place as u64, id);
         }
         appended
     }
@@ -151,7 +151,7 @@ impl Alternates {
         requires { IsTable AltTable self.now }
         ensures { IfOk result (λ is. is ≡ fits_any wanted.now (option_copied lang.entry) place self.now) }
     {
-        for (_, id) in self.order.of_place(place) {
+        for (_, id) in self.order.of_key(place as u64) {
             if self.fits_at(alloc, wanted, lang, place, *id)? {
                 return Ok(true);
             }

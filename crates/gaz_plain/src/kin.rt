@@ -5,42 +5,20 @@ ghost use Rattle.gaz_num.specs.Pieces.{column};
 ghost use Rattle.gaz_num.specs.declared.words.Table.TheVariants.{Rows};
 ghost use Rattle.gaz_row.specs.Row.{id_of};
 ghost use Rattle.gaz_parent.specs.Parent.{may_be, least_other, is_link, is_division_of, is_country_of, names, parent_of};
-ghost use Rattle.gaz_parent.specs.Chain.{parent_at, upwards, is_child};
-ghost use Rattle.gaz_pick.specs.Order.{in_order};
+ghost use Rattle.gaz_parent.specs.Chain.{parent_at, upwards};
 ghost use Rattle.gaz_plain.specs.Gazetteer.{line_with};
-ghost use Rattle.gaz_plain.specs.Kin.{lists_of, chain_of, child_pairs, children_pairs};
+ghost use Rattle.gaz_plain.specs.Ordered.{passes_at};
+ghost use Rattle.gaz_plain.specs.Kin.{lists_of, chain_of};
 
 use crate::PlainGaz;
-use gaz_num::Table;
+use crate::row_numbers::{country_number, path_number};
 use gaz_parent::{
     Kin, leads_to_country, leads_to_division, may_be_country, may_be_division, parent,
 };
-use gaz_pick::{Best, first_of_more};
 use gaz_row::Row;
 use gaz_tables::{LinkClass, LinkKey, country_place};
 use std::convert::Infallible;
 use std::marker::Model;
-
-/// The feature classes of the rows that may be children: divisions and countries, and cities and villages.
-const ADMINISTRATIVE: &str = "A";
-
-const POPULATED: &str = "P";
-
-/// Whether another row is a division of this level with the row's country and admin codes.
-fn is_division(level: u8, row: &Row<'_>, other: &Row<'_>) -> bool
-    requires low { 1 ≤ level }
-    requires high { level ≤ 4 }
-    ensures { result ≡ may_be (id_of row.now) (is_division_of level row.now) other.now }
-{
-    may_be_division(level, row, other) && other.id() != row.id()
-}
-
-/// Whether another row is a country with the row's country.
-fn is_country(row: &Row<'_>, other: &Row<'_>) -> bool
-    ensures { result ≡ may_be (id_of row.now) (is_country_of (column 9 row.now)) other.now }
-{
-    may_be_country(row, other) && other.id() != row.id()
-}
 
 /// A gazetteer on plain lists, as the parent rule asks it, seen as the gazetteer. No call fails.
 #[derive(Drop)]
@@ -66,8 +44,18 @@ impl<'a> PlainKin<'a> {
         PlainKin { gaz }
     }
 
+    /// Whether the row with the id is another one, and a link of this class leads from the child to it.
+    fn is_linked(&self, child: u32, class: LinkClass, id: u32) -> bool
+        ensures { result ≡ passes_at (may_be child (λ other. list_any (is_link class child (id_of other)) self.now.links)) (line_with Rows (id ∷ []) self.now) }
+    {
+        match self.gaz.get(id) {
+            Some(line) => self.leads_to(child, class, &Row::of(line)),
+            None => false,
+        }
+    }
+
     /// Whether a link of this class leads from the child to another row.
-    fn is_linked(&self, child: u32, class: LinkClass, other: &Row<'_>) -> bool
+    fn leads_to(&self, child: u32, class: LinkClass, other: &Row<'_>) -> bool
         ensures { result ≡ may_be child (λ other. list_any (is_link class child (id_of other)) self.now.links) other.now }
     {
         self.gaz.has_link(child, class, other.id()) && other.id() != child
@@ -77,13 +65,27 @@ impl<'a> PlainKin<'a> {
     fn least_linked(&self, child: u32, class: LinkClass) -> Option<u32>
         ensures { result ≡ least_other (lists_of self.now) child (λ other. list_any (is_link class child (id_of other)) self.now.links) }
     {
-        for line in self.gaz.lines(Table::Rows) {
-            let other = Row::of(line);
-            if self.is_linked(child, class, &other) {
-                return Some(other.id());
+        for (_, id) in self.gaz.parents_of(child, class) {
+            if self.is_linked(child, class, *id) {
+                return Some(*id);
             }
         }
         None
+    }
+
+    /// Whether the row with the id is another one, and a division of this level with the row's country and admin codes.
+    fn is_division(&self, level: u8, row: &Row<'_>, id: u32) -> bool
+        requires low { 1 ≤ level }
+        requires high { level ≤ 4 }
+        ensures { result ≡ passes_at (may_be (id_of row.now) (is_division_of level row.now)) (line_with Rows (id ∷ []) self.now) }
+    {
+        match self.gaz.get(id) {
+            Some(line) => {
+                let other = Row::of(line);
+                may_be_division(level, row, &other) && other.id() != row.id()
+            }
+            None => false,
+        }
     }
 
     /// The least id of another row that is a division of this level with the row's country and admin codes.
@@ -92,23 +94,34 @@ impl<'a> PlainKin<'a> {
         requires high { level ≤ 4 }
         ensures { result ≡ least_other (lists_of self.now) (id_of row.now) (is_division_of level row.now) }
     {
-        for line in self.gaz.lines(Table::Rows) {
-            let other = Row::of(line);
-            if is_division(level, row, &other) {
-                return Some(other.id());
+        for (_, id) in self.gaz.with_number(path_number(level, row)) {
+            if self.is_division(level, row, *id) {
+                return Some(*id);
             }
         }
         None
+    }
+
+    /// Whether the row with the id is another one, and a country with the row's country.
+    fn is_country(&self, row: &Row<'_>, id: u32) -> bool
+        ensures { result ≡ passes_at (may_be (id_of row.now) (is_country_of (column 9 row.now))) (line_with Rows (id ∷ []) self.now) }
+    {
+        match self.gaz.get(id) {
+            Some(line) => {
+                let other = Row::of(line);
+                may_be_country(row, &other) && other.id() != row.id()
+            }
+            None => false,
+        }
     }
 
     /// The least id of another row that is a country with the row's country.
     fn least_country(&self, row: &Row<'_>) -> Option<u32>
         ensures { result ≡ least_other (lists_of self.now) (id_of row.now) (is_country_of (column 9 row.now)) }
     {
-        for line in self.gaz.lines(Table::Rows) {
-            let other = Row::of(line);
-            if is_country(row, &other) {
-                return Some(other.id());
+        for (_, id) in self.gaz.with_number(country_number(row.country())) {
+            if self.is_country(row, *id) {
+                return Some(*id);
             }
         }
         None
@@ -184,7 +197,7 @@ impl<'a> Kin for PlainKin<'a> {
 
 impl PlainGaz {
     /// The parent of the row.
-    fn parent_of(&self, row: &Row<'_>) -> Option<u32>
+    pub(crate) fn parent_of(&self, row: &Row<'_>) -> Option<u32>
         ensures { result ≡ parent_of (lists_of self.now) row.now }
     {
         let mut kin = PlainKin::new(self);
@@ -245,41 +258,5 @@ impl PlainGaz {
             next = self.parent_at(place);
         }
         count
-    }
-
-    /// Whether the row is a child of the place with the id.
-    fn is_child(&self, id: u32, row: &Row<'_>) -> bool
-        ensures { result ≡ is_child (lists_of self.now) id row.now }
-    {
-        (row.class() == ADMINISTRATIVE || row.class() == POPULATED)
-            && self.parent_of(row) == Some(id)
-    }
-
-    /// Puts the first of the children of the place with the id into `best`, in the order of answers.
-    pub fn children(&self, id: u32, max: u32, best: &mut Best)
-        requires { max ≤ 1000 }
-        ensures keep { best.new.keep ≡ max }
-        ensures held { best.new.pairs ≡ take max (in_order (child_pairs self.now id)) }
-        ensures answer { take max best.new.pairs ≡ children_pairs self.now id max }
-    {
-        first_of_more();
-        best.clear(max);
-        self.offer_children(id, best);
-    }
-
-    /// Offers the population and the id of each child.
-    fn offer_children(&self, id: u32, best: &mut Best)
-        requires none { best.old.pairs ≡ [] }
-        ensures keep { best.new.keep ≡ best.old.keep }
-        ensures pairs { best.new.pairs ≡ take best.old.keep (in_order (child_pairs self.now id)) }
-    {
-        first_of_more();
-        self.is_gazetteer();
-        for line in self.lines(Table::Rows) {
-            let row = Row::of(line);
-            if self.is_child(id, &row) {
-                best.offer(row.population(), row.id());
-            }
-        }
     }
 }

@@ -6,14 +6,18 @@
 #![tactic(auto)]
 
 mod alternates;
+mod children;
 mod fault;
+mod ids_by_key;
 mod key;
 mod kin;
 mod laws;
 mod line_list;
 mod lines;
-mod place_order;
+mod links;
 mod plain_gaz;
+mod row_numbers;
+mod rows;
 mod wanted;
 
 pub use fault::PlainFault;

@@ -1,9 +1,10 @@
 //! The gazetteer that is stepped on plain lists.
-ghost use Rattle.std.specs.Prelude.{◌≡◌, ◌≤◌, ◌+◌, ◌∷◌, ◌++◌, [], true, false, length, take, drop, slice_get, IsSome, IsTrue, IsOk, IfOk, IfErr, OnOk, OnErr, Ok};
+ghost use Rattle.std.specs.Prelude.{◌≡◌, ℕ, List, Some, ◌≤◌, ◌+◌, ◌∷◌, ◌++◌, [], true, false, length, take, drop, slice_get, IsSome, IsTrue, IsOk, IfOk, IfErr, OnOk, OnErr, Ok};
 ghost use Rattle.std.specs.Option.{option_copied};
-ghost use Rattle.gaz_num.specs.declared.words.Table.TheVariants.{Rows};
 ghost use Rattle.std.specs.List.{list_any};
 ghost use Rattle.gaz_parent.specs.Parent.{is_link};
+ghost use Rattle.gaz_tables.specs.Keys.{class_number};
+ghost use Rattle.gaz_plain.specs.Ordered.{row_numbers, is_one_in, has_id, IdsRise};
 ghost use Rattle.gaz_pick.specs.Order.{in_order};
 ghost use Rattle.gaz_pick.specs.Asked.{absent, asked};
 ghost use Rattle.gaz_plain.specs.Search.{matches, matching_pairs, answer_pairs};
@@ -14,9 +15,11 @@ ghost use Rattle.gaz_plain.specs.Wanted.{wanted_of};
 
 use crate::PlainFault;
 use crate::alternates::Alternates;
-use crate::key::{AdminCode, CountryCode, RowId};
+use crate::key::{AdminCode, CountryCode};
 use crate::line_list::LineList;
 use crate::lines::Lines;
+use crate::links::Links;
+use crate::rows::Rows;
 use crate::wanted::Wanted;
 use gaz_alt::{check_alt, check_delete};
 use gaz_num::{Day, Kind, Table};
@@ -24,15 +27,16 @@ use gaz_pick::{Best, Query, first_of_more, passes};
 use gaz_row::{Row, check_row};
 use gaz_tables::{LinkClass, LinkKey, check_code, check_country, check_link};
 use std::alloc::{AllocError, Global};
+use std::collections::btree_set::Range;
 use std::marker::Model;
 
 /// A gazetteer as plain lists of lines, seen as the `Gazetteer` of the definitions.
 #[derive(Drop)]
 pub struct PlainGaz {
     date: Option<Day>,
-    rows: LineList<RowId>,
+    rows: Rows,
     alternates: Alternates,
-    links: LineList<LinkKey>,
+    links: Links,
     countries: LineList<CountryCode>,
     codes: LineList<AdminCode>,
 }
@@ -54,9 +58,9 @@ impl PlainGaz {
     {
         PlainGaz {
             date: None,
-            rows: LineList::new(alloc),
+            rows: Rows::new(alloc),
             alternates: Alternates::new(alloc),
-            links: LineList::new(alloc),
+            links: Links::new(alloc),
             countries: LineList::new(alloc),
             codes: LineList::new(alloc),
         }
@@ -93,7 +97,7 @@ impl PlainGaz {
         ensures date { self.new.date ≡ self.old.date }
     {
         match check_row(line) {
-            Ok(id) => self.rows.put(RowId(id), line),
+            Ok(id) => self.rows.put(id, line),
             Err(reason) => Err(PlainFault::Malformed(reason)),
         }
     }
@@ -108,7 +112,7 @@ impl PlainGaz {
     {
         match check_delete(line) {
             Ok(id) => {
-                self.rows.take_out(&RowId(id));
+                self.rows.take_out(id);
                 Ok(())
             }
             Err(reason) => Err(PlainFault::Malformed(reason)),
@@ -209,9 +213,9 @@ impl PlainGaz {
 
     /// The row with the id, if there is one.
     pub fn get(&self, id: u32) -> Option<&[u8]>
-        ensures { option_copied result ≡ line_with Rows (id ∷ []) self.now }
+        ensures { option_copied result ≡ line_with Table.Rows (id ∷ []) self.now }
     {
-        self.rows.get(&RowId(id))
+        self.rows.get(id)
     }
 
     /// The line of an admin code, if there is one.
@@ -245,6 +249,29 @@ impl PlainGaz {
                 parent,
             })
             .is_some()
+    }
+
+    /// Pairs with the ids of the rows that have a number, and perhaps of others.
+    pub(crate) fn with_number(&self, number: u64) -> Range<'_, (u64, u32)>
+        ensures rising { IdsRise result }
+        ensures all { (id : ℕ) (row : List ℕ) → line_with Table.Rows (id ∷ []) self.now ≡ Some row → is_one_in (row_numbers row) number ≡ true → has_id result id ≡ true }
+    {
+        self.rows.with_number(number)
+    }
+
+    /// Pairs with the ids of the parents of a child in links of a class, and perhaps of others.
+    pub(crate) fn parents_of(&self, child: u32, class: LinkClass) -> Range<'_, (u64, u32)>
+        ensures rising { IdsRise result }
+        ensures all { (parent : ℕ) (link : List ℕ) → line_with Table.Links (child ∷ class_number class ∷ parent ∷ []) self.now ≡ Some link → has_id result parent ≡ true }
+    {
+        self.links.parents_of(child, class)
+    }
+
+    /// Pairs with the ids of the children of a parent in links, and perhaps of others.
+    pub(crate) fn children_of(&self, parent: u32) -> Range<'_, (u64, u32)>
+        ensures { (child class : ℕ) (link : List ℕ) → line_with Table.Links (child ∷ class ∷ parent ∷ []) self.now ≡ Some link → has_id result child ≡ true }
+    {
+        self.links.children_of(parent)
     }
 
     /// How many lines the table has.
@@ -311,7 +338,7 @@ impl PlainGaz {
         let Ok(id) = check_row(line) else {
             return Ok(false);
         };
-        self.rows.append(RowId(id), line)
+        self.rows.append(id, line)
     }
 
     /// Puts an alternate name behind all others.

@@ -2,9 +2,10 @@
 ghost use Rattle.std.specs.Prelude.{◌≡◌, ◌<◌, ◌≤◌, ◌+◌, ◌*◌, ◌++◌, ℕ, List, [], IsTrue, IfErr, Some};
 ghost use Rattle.gaz_leaf.specs.Node.{Pair, key_of, key_in, entry_at, count_of as count_in, IsShaped};
 ghost use Rattle.gaz_tree.specs.Tree.{IsTop};
+ghost use Rattle.gaz_tree.specs.Calls.{NamesOf};
 ghost use Rattle.gaz_page.specs.Pages.{HasReads, NoMemory};
 ghost use Rattle.gaz_scan.specs.Ranges.{between, up_to};
-ghost use Rattle.gaz_scan.specs.Seek.{Names, rest_of, IsAfterLast};
+ghost use Rattle.gaz_scan.specs.Seek.{rest_of, IsAfterLast};
 ghost use Rattle.gaz_scan.specs.Scan.{Comes, Gives, GivesFirst, Fills, tree_of};
 
 use crate::after::after;
@@ -76,7 +77,7 @@ impl Scan {
             → Fills (P.view pages.old).page (P.view pages.new).page self.new left result }
         ensures tree { tree_of self.new ≡ tree_of self.old }
         ensures fault { IfErr result NoMemory }
-        ensures names { IsTrue (P.view pages.old).is_told → 0 < (tree_of self.old).height → Names (P.view pages.old).page (tree_of self.old).height result }
+        ensures names { IsTrue (P.view pages.old).is_told → NamesOf (P.view pages.old).page (tree_of self.old).height (tree_of self.old).top result }
         ensures reads { HasReads (2 * (tree_of self.old).height) (P.view pages.old) (P.view pages.new) result }
         ensures keeps { P.keeps pages.old pages.new }
     {
@@ -111,7 +112,7 @@ impl Scan {
             → Fills (P.view pages.old).page (P.view pages.new).page self.new left result }
         ensures tree { tree_of self.new ≡ tree_of self.old }
         ensures fault { IfErr result NoMemory }
-        ensures names { IsTrue (P.view pages.old).is_told → 0 < (tree_of self.old).height → Names (P.view pages.old).page (tree_of self.old).height result }
+        ensures names { IsTrue (P.view pages.old).is_told → NamesOf (P.view pages.old).page (tree_of self.old).height (tree_of self.old).top result }
         ensures reads { HasReads (2 * (tree_of self.old).height) (P.view pages.old) (P.view pages.new) result }
         ensures keeps { P.keeps pages.old pages.new }
     {
@@ -130,7 +131,7 @@ impl Scan {
             → Gives (P.view pages.old).page (P.view pages.new).page self.new left result }
         ensures tree { tree_of self.new ≡ tree_of self.old }
         ensures fault { IfErr result NoMemory }
-        ensures names { IsTrue (P.view pages.old).is_told → 0 < (tree_of self.old).height → Names (P.view pages.old).page (tree_of self.old).height result }
+        ensures names { IsTrue (P.view pages.old).is_told → NamesOf (P.view pages.old).page (tree_of self.old).height (tree_of self.old).top result }
         ensures reads { HasReads (2 * (tree_of self.old).height) (P.view pages.old) (P.view pages.new) result }
         ensures keeps { P.keeps pages.old pages.new }
     {

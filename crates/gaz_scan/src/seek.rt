@@ -1,14 +1,14 @@
 //! The search for the leaf with the first pair from a key on.
-ghost use Rattle.std.specs.Prelude.{◌≡◌, ◌<◌, ◌≤◌, ◌+◌, ◌*◌, ℕ, List, [], take, drop, length, false, IsTrue, IfOk, IfErr};
-ghost use Rattle.gaz_leaf.specs.Node.{Pair, key_in, pairs_in, count_of as count_in, key_of, entry_at, IsForm, IsShaped};
+ghost use Rattle.std.specs.Prelude.{◌≡◌, ◌<◌, ◌≤◌, ◌+◌, ◌*◌, ℕ, suc, List, [], take, drop, length, false, IsTrue, IfOk, IfErr};
+ghost use Rattle.gaz_leaf.specs.Node.{Pair, key_in, pairs_in, count_of as count_in, number_of, key_of, entry_at, IsForm, IsShaped};
 ghost use Rattle.gaz_tree.specs.Pairs.{Within};
-ghost use Rattle.gaz_tree.specs.Tree.{BeginsWithZero, children_of, leaf_of, tree_pairs, next_key, IsFan, IsHead, IsTree};
+ghost use Rattle.gaz_tree.specs.Tree.{BeginsWithZero, children_of, leaf_of, tree_pairs, next_key, IsFan, IsHead, IsTree, SomeEntry};
 ghost use Rattle.gaz_page.specs.Pages.{HasReads, NoMemory};
-ghost use Rattle.gaz_scan.specs.Seek.{Turns, FirstChild, Sought, First, Copies, CopiesOne, IsUnfit, IsNext, Names, pairs_below};
+ghost use Rattle.gaz_scan.specs.Seek.{Turns, FirstChild, Sought, First, Copies, CopiesOne, IsUnfit, IsNext, IsAmong, NamesUnder, pairs_below};
 
 use crate::copied::Copied;
 use crate::turn::{Turn, first_child_in, turn_in};
-use gaz_leaf::{Key, Kind, count_of, first_above, is_shaped, key_at};
+use gaz_leaf::{Key, Kind, count_of, first_above, is_page, key_at};
 use gaz_page::{PageFault, Pages};
 
 /// The place of the first entry of a leaf whose key isn't below this one, or the number of entries.
@@ -31,13 +31,14 @@ fn first_from(bytes: &[u8], key: Key) -> usize
 /// Copies a leaf with these bytes, where it has a key from this one on, and says whether it has.
 fn copy_in(bytes: &[u8], page: u32, key: Key, copied: &mut Copied) -> Result<bool, PageFault>
     requires { length bytes.now ≡ 4096 }
-    ensures sought { (number low high : ℕ) → IsForm Kind.Leaf number bytes.now → Within low high (pairs_in Kind.Leaf bytes.now)
+    ensures sought { (low high : ℕ) → IsForm Kind.Leaf page bytes.now → Within low high (pairs_in Kind.Leaf bytes.now)
         → low ≤ key_in key → key_in key < high → Sought low high (key_in key) (pairs_in Kind.Leaf bytes.now) result copied.new }
     ensures copies { Copies result copied.old copied.new }
     ensures damaged { IfErr result (λ fault. fault ≡ PageFault.Damaged page) }
-    ensures unfit { IfErr result (λ fault. IsUnfit Kind.Leaf bytes.now) }
+    ensures own { IfOk result (λ found. number_of bytes.now ≡ page) }
+    ensures unfit { IfErr result (λ fault. IsForm Kind.Leaf page bytes.now → ⊥) }
 {
-    if !is_shaped(bytes, Kind::Leaf) {
+    if !is_page(bytes, Kind::Leaf, page) {
         return Err(PageFault::Damaged(page));
     }
     let at = first_from(bytes, key);
@@ -52,13 +53,14 @@ fn copy_in(bytes: &[u8], page: u32, key: Key, copied: &mut Copied) -> Result<boo
 /// Copies a leaf with these bytes, which has to have an entry.
 fn copy_all_in(bytes: &[u8], page: u32, copied: &mut Copied) -> Result<(), PageFault>
     requires { length bytes.now ≡ 4096 }
-    ensures first { (number low high : ℕ) → IsForm Kind.Leaf number bytes.now → Within low high (pairs_in Kind.Leaf bytes.now)
+    ensures first { (low high : ℕ) → IsForm Kind.Leaf page bytes.now → Within low high (pairs_in Kind.Leaf bytes.now)
         → 0 < count_in bytes.now → First low high (pairs_in Kind.Leaf bytes.now) result copied.new }
     ensures copies { CopiesOne result copied.old copied.new }
     ensures damaged { IfErr result (λ fault. fault ≡ PageFault.Damaged page) }
-    ensures unfit { IfErr result (λ fault. IsUnfit Kind.Leaf bytes.now) }
+    ensures own { IfOk result (λ copied. number_of bytes.now ≡ page) }
+    ensures unfit { IfErr result (λ fault. IsUnfit Kind.Leaf page bytes.now) }
 {
-    if !is_shaped(bytes, Kind::Leaf) {
+    if !is_page(bytes, Kind::Leaf, page) {
         return Err(PageFault::Damaged(page));
     }
     if count_of(bytes) == 0 {
@@ -80,7 +82,7 @@ fn copy_from<P: Pages>(
         → low ≤ key_in key → key_in key < high → Sought low high (key_in key) (leaf_of (P.view pages.old).page page) result copied.new }
     ensures copies { Copies result copied.old copied.new }
     ensures fault { IfErr result NoMemory }
-    ensures names { IsTrue (P.view pages.old).is_told → Names (P.view pages.old).page 1 result }
+    ensures names { IsTrue (P.view pages.old).is_told → (most : ℕ) → NamesUnder (P.view pages.old).page most 0 page result }
     ensures reads { HasReads 1 (P.view pages.old) (P.view pages.new) result }
     ensures keeps { P.keeps pages.old pages.new }
 {
@@ -96,7 +98,7 @@ fn copy_all<P: Pages>(pages: &mut P, page: u32, copied: &mut Copied) -> Result<(
         → First low high (leaf_of (P.view pages.old).page page) result copied.new }
     ensures copies { CopiesOne result copied.old copied.new }
     ensures fault { IfErr result NoMemory }
-    ensures names { IsTrue (P.view pages.old).is_told → Names (P.view pages.old).page 1 result }
+    ensures names { IsTrue (P.view pages.old).is_told → (most : ℕ) → 0 < most → NamesUnder (P.view pages.old).page most 0 page result }
     ensures reads { HasReads 1 (P.view pages.old) (P.view pages.new) result }
     ensures keeps { P.keeps pages.old pages.new }
 {
@@ -108,10 +110,12 @@ fn copy_all<P: Pages>(pages: &mut P, page: u32, copied: &mut Copied) -> Result<(
 
 /// The turn that leads to the key from an inner page.
 fn read_turn<P: Pages>(pages: &mut P, page: u32, key: Key) -> Result<Turn, PageFault>
-    ensures turns { IsTrue (P.view pages.old).is_told → (number : ℕ) → IsForm Kind.Inner number ((P.view pages.old).page page)
+    ensures turns { IsTrue (P.view pages.old).is_told → IsForm Kind.Inner page ((P.view pages.old).page page)
         → BeginsWithZero (children_of (P.view pages.old).page page) → Turns (children_of (P.view pages.old).page page) (key_in key) result }
+    ensures child { IfOk result (λ turn. IsTrue (P.view pages.old).is_told → SomeEntry (λ e. e.value ≡ turn.child) (children_of (P.view pages.old).page page)) }
+    ensures behind { IfOk result (λ turn. IsTrue (P.view pages.old).is_told → IsAmong turn.next (children_of (P.view pages.old).page page)) }
     ensures fault { IfErr result NoMemory }
-    ensures names { IsTrue (P.view pages.old).is_told → (level : ℕ) → 0 < level → Names (P.view pages.old).page (level + 1) result }
+    ensures names { IsTrue (P.view pages.old).is_told → (most level : ℕ) → level < most → NamesUnder (P.view pages.old).page most (suc level) page result }
     ensures reads { HasReads 1 (P.view pages.old) (P.view pages.new) result }
     ensures keeps { P.keeps pages.old pages.new }
 {
@@ -123,10 +127,11 @@ fn read_turn<P: Pages>(pages: &mut P, page: u32, key: Key) -> Result<Turn, PageF
 
 /// The first child page of an inner page.
 fn read_first<P: Pages>(pages: &mut P, page: u32) -> Result<u32, PageFault>
-    ensures first { IsTrue (P.view pages.old).is_told → (number : ℕ) → IsForm Kind.Inner number ((P.view pages.old).page page)
+    ensures first { IsTrue (P.view pages.old).is_told → IsForm Kind.Inner page ((P.view pages.old).page page)
         → BeginsWithZero (children_of (P.view pages.old).page page) → FirstChild (children_of (P.view pages.old).page page) result }
+    ensures child { IfOk result (λ child. IsTrue (P.view pages.old).is_told → SomeEntry (λ e. e.value ≡ child) (children_of (P.view pages.old).page page)) }
     ensures fault { IfErr result NoMemory }
-    ensures names { IsTrue (P.view pages.old).is_told → (level : ℕ) → 0 < level → Names (P.view pages.old).page (level + 1) result }
+    ensures names { IsTrue (P.view pages.old).is_told → (most level : ℕ) → level < most → NamesUnder (P.view pages.old).page most (suc level) page result }
     ensures reads { HasReads 1 (P.view pages.old) (P.view pages.new) result }
     ensures keeps { P.keeps pages.old pages.new }
 {
@@ -147,7 +152,7 @@ fn first_below<P: Pages>(
         → First low high (tree_pairs (P.view pages.old).page level page) result copied.new }
     ensures copies { CopiesOne result copied.old copied.new }
     ensures fault { IfErr result NoMemory }
-    ensures names { IsTrue (P.view pages.old).is_told → Names (P.view pages.old).page (level + 1) result }
+    ensures names { IsTrue (P.view pages.old).is_told → (most : ℕ) → level < most → NamesUnder (P.view pages.old).page most level page result }
     ensures reads { HasReads (level + 1) (P.view pages.old) (P.view pages.new) result }
     ensures keeps { P.keeps pages.old pages.new }
 {
@@ -171,7 +176,7 @@ fn follow<P: Pages>(
         → Sought (next_key high ys) high (next_key high ys) (pairs_below (P.view pages.old).page level ys) result copied.new }
     ensures copies { Copies result copied.old copied.new }
     ensures fault { IfErr result NoMemory }
-    ensures names { IsTrue (P.view pages.old).is_told → Names (P.view pages.old).page (level + 1) result }
+    ensures names { IsTrue (P.view pages.old).is_told → (most page : ℕ) → level < most → IsAmong next (children_of (P.view pages.old).page page) → NamesUnder (P.view pages.old).page most (suc level) page result }
     ensures few { IfOk result (λ found. found ≡ false → (P.view pages.new).reads ≤ (P.view pages.old).reads) }
     ensures reads { HasReads (level + 1) (P.view pages.old) (P.view pages.new) result }
     ensures keeps { P.keeps pages.old pages.new }
@@ -197,7 +202,7 @@ pub fn seek_below<P: Pages>(
         → low ≤ key_in key → key_in key < high → Sought low high (key_in key) (tree_pairs (P.view pages.old).page level page) result copied.new }
     ensures copies { Copies result copied.old copied.new }
     ensures fault { IfErr result NoMemory }
-    ensures names { IsTrue (P.view pages.old).is_told → Names (P.view pages.old).page (level + 1) result }
+    ensures names { IsTrue (P.view pages.old).is_told → (most : ℕ) → level ≤ most → NamesUnder (P.view pages.old).page most level page result }
     ensures few { IfOk result (λ found. found ≡ false → (P.view pages.new).reads ≤ (P.view pages.old).reads + (level + 1)) }
     ensures reads { HasReads (2 * (level + 1)) (P.view pages.old) (P.view pages.new) result }
     ensures keeps { P.keeps pages.old pages.new }

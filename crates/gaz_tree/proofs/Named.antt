@@ -62,7 +62,7 @@ fit_below pages below level n fit = record {
   filled = λ lt. fit.filled (omega arith);
 }
 
-some_leads : (pages : ℕ → List ℕ) (below child level n : ℕ) (es : List Pair) → SomeEntry (λ e. e.value ≡ child) es → LeadsAt pages below child level n
+pub some_leads : (pages : ℕ → List ℕ) (below child level n : ℕ) (es : List Pair) → SomeEntry (λ e. e.value ≡ child) es → LeadsAt pages below child level n
     → SomeEntry (λ e. LeadsAt pages below e.value level n) es
 some_leads pages below child level n [] s leads = absurd s
 some_leads pages below child level n (e ∷ es) (inl is) leads = inl (subst (λ (k : ℕ). LeadsAt pages below k level n) (sym is) leads)

@@ -1,7 +1,7 @@
 //! One more entry in a page.
 ghost use Rattle.std.specs.Prelude.{◌≡◌, ◌≤◌, ◌<◌, ◌+◌, ◌^◌, ℕ, false, List, length, IsTrue, IfOk, IfErr, OnOk};
 ghost use Rattle.gaz_page.specs.Pages.{HasPageCause, Counts};
-ghost use Rattle.gaz_leaf.specs.Node.{Pair, key_of, pairs_in, count_of as count_in, capacity, IsForm, IsShaped, IsFitting};
+ghost use Rattle.gaz_leaf.specs.Node.{Pair, key_of, pairs_in, count_of as count_in, number_of, capacity, IsForm, IsShaped, IsFitting};
 ghost use Rattle.gaz_tree.specs.Tree.{from_low};
 ghost use Rattle.gaz_page.specs.Pages.{HasReads, NoMemory};
 ghost use Rattle.gaz_tree.specs.Calls.{Unfit};
@@ -20,6 +20,7 @@ pub fn load<P: Pages>(
 ) -> Result<usize, PageFault>
     ensures count { IfOk result (λ count. count ≡ count_in buf.new) }
     ensures shaped { IfOk result (λ count. IsShaped kind buf.new) }
+    ensures own { IfOk result (λ count. number_of buf.new ≡ page) }
     ensures bytes { OnOk result (IsTrue (P.view pages.old).is_told → buf.new ≡ (P.view pages.old).page page) }
     ensures fault { IfErr result NoMemory }
     ensures unfit { IfErr result (Unfit kind page ((P.view pages.old).page page) (P.view pages.old).is_told) }

@@ -7,7 +7,7 @@ ghost use Rattle.gaz_tree.specs.Remove.{child_in, key_in_page, raised, both_in, 
 
 use crate::add::{load, part};
 use crate::shrunk::Shrunk;
-use gaz_leaf::{Kind, child_at, count_of, cut, join, replace, share};
+use gaz_leaf::{Kind, child_at, count_of, cut, join, key_bytes, replace, share};
 use gaz_page::{PageFault, Pages};
 
 /// The least number of entries of a page below the topmost.
@@ -18,17 +18,6 @@ pub fn least(kind: Kind) -> usize
         Kind::Leaf => 51,
         Kind::Inner => 56,
     }
-}
-
-/// The bytes of a key of an inner page.
-fn key_bytes(page: &[u8; 4096], n: usize) -> [u8; 32]
-    requires shaped { IsShaped Kind.Inner page.now }
-    requires within { n < count_in page.now }
-    ensures { key_of result ≡ key_in_page page.now n }
-{
-    let mut key = [0; 32];
-    key.copy_from_slice(&page[16 + 36 * n..16 + 36 * n + 32]);
-    key
 }
 
 /// Joins two neighbours into the left page, gives the right one back, and takes its entry out of the page above them.
@@ -168,7 +157,7 @@ fn mend_two<P: Pages>(
     if second == 0 {
         return Err(PageFault::Damaged(child_at(parent, i + 1)));
     }
-    raise(&mut right, kind, &key_bytes(parent, i + 1));
+    raise(&mut right, kind, &key_bytes(parent, Kind::Inner, i + 1));
     if first + second <= kind.capacity() {
         return join_pages(pages, kind, page, parent, i, &mut left, &right);
     }

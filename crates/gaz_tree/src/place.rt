@@ -2,7 +2,7 @@
 ghost use Rattle.std.specs.Prelude.{◌≡◌, ◌≤◌, ◌<◌, ◌+◌, ◌^◌, ℕ, false, List, length, IsTrue, IfOk, IfErr, OnOk};
 ghost use Rattle.std.specs.Prelude.{◌∷◌, ◌++◌, take, drop};
 ghost use Rattle.gaz_page.specs.Pages.{HasPageCause, Counts};
-ghost use Rattle.gaz_leaf.specs.Node.{Pair, key_in, key_of, pairs_in, count_of as count_in, IsForm};
+ghost use Rattle.gaz_leaf.specs.Node.{Pair, key_in, key_of, pairs_in, count_of as count_in, number_of, IsForm};
 ghost use Rattle.gaz_tree.specs.Pairs.{Within};
 ghost use Rattle.gaz_tree.specs.Tree.{leaf_of};
 ghost use Rattle.gaz_page.specs.Pages.{HasReads, NoMemory, NotDamaged};
@@ -31,6 +31,7 @@ fn place_in(bytes: &[u8], page: u32, key: Key, value: u64) -> Result<Place, Page
         → Places (pairs_in Kind.Leaf bytes.now) (record { key = key_in key; value = value }) result }
     ensures within { IfOk result (λ place. IsPlaceOf (count_in bytes.now) place) }
     ensures damaged { IfErr result (λ fault. fault ≡ PageFault.Damaged page) }
+    ensures own { IfOk result (λ place. number_of bytes.now ≡ page) }
     ensures unfit { IfErr result (λ fault. IsForm Kind.Leaf page bytes.now → ⊥) }
 {
     if !is_page(bytes, Kind::Leaf, page) {

@@ -1,6 +1,6 @@
 //! The way from a page towards a key.
 ghost use Rattle.std.specs.Prelude.{◌≡◌, ◌≤◌, ◌<◌, ◌+◌, ◌^◌, ℕ, length, IsTrue, IfOk, IfErr, Ok};
-ghost use Rattle.gaz_leaf.specs.Node.{key_in, pairs_in, count_of as count_in, IsForm};
+ghost use Rattle.gaz_leaf.specs.Node.{key_in, pairs_in, count_of as count_in, number_of, IsForm};
 ghost use Rattle.gaz_page.specs.Pages.{PagesView};
 ghost use Rattle.gaz_tree.specs.Pairs.{Within, lookup};
 ghost use Rattle.gaz_tree.specs.Tree.{BeginsWithZero, children_of, leaf_of, SomeEntry};
@@ -26,6 +26,7 @@ pub fn way_in(bytes: &[u8], page: u32, key: Key) -> Result<Way, PageFault>
     ensures place { IfOk result (λ way. way.place < count_in bytes.now) }
     ensures small { IfOk result (λ way. way.place < 2 ^ 16) }
     ensures damaged { IfErr result (λ fault. fault ≡ PageFault.Damaged page) }
+    ensures own { IfOk result (λ way. number_of bytes.now ≡ page) }
     ensures unfit { IfErr result (λ fault. IsForm Kind.Inner page bytes.now → 2 ≤ count_in bytes.now → ⊥) }
 {
     if !is_page(bytes, Kind::Inner, page) {
@@ -47,6 +48,7 @@ pub fn value_in(bytes: &[u8], page: u32, key: Key) -> Result<Option<u64>, PageFa
     ensures found { (low high : ℕ) → IsForm Kind.Leaf page bytes.now → Within low high (pairs_in Kind.Leaf bytes.now)
         → low ≤ key_in key → key_in key < high → IsGot (lookup (key_in key) (pairs_in Kind.Leaf bytes.now)) result }
     ensures damaged { IfErr result (λ fault. fault ≡ PageFault.Damaged page) }
+    ensures own { IfOk result (λ found. number_of bytes.now ≡ page) }
     ensures unfit { IfErr result (λ fault. IsForm Kind.Leaf page bytes.now → ⊥) }
 {
     if !is_page(bytes, Kind::Leaf, page) {

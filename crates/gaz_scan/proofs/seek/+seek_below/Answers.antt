@@ -1,15 +1,48 @@
-use Rattle.std.proofs.Common.{◌≡◌, ◌+◌, ◌-◌, suc, sym, subst, ◌∙◌, arith}
-use Rattle.std.specs.Prelude.{IsTrue, Bool}
+use Rattle.std.proofs.Common.{◌≡◌, ◌-◌, suc, sym, subst, ◌∙◌, arith}
+use Rattle.std.specs.Prelude.{IsTrue, Bool, ℕ, List, Err}
+use Rattle.gaz_tree.specs.Tree.{children_of}
+use Rattle.gaz_scan.specs.Seek.{IsAmong, NamesUnder}
 use Rattle.gaz_scan.specs.declared.turn.Turn.{Turn}
 use Rattle.gaz_leaf.specs.Node.{key_in}
-use Rattle.gaz_scan.proofs.Places.{names_failed}
+use Rattle.gaz_scan.proofs.Places.{under_child, under_same, under_failed}
 use Rattle.gaz_scan.proofs.Finds.{turned, found_here, found_next, here_failed}
 use Rattle.gaz_scan.proofs.seek.+seek_below.Goals as goal
 
+pub returns-then-level-eq0-clause-names : goal.returns-then-level-eq0-clause-names
+returns-then-level-eq0-clause-names g t c told most le =
+    let is = c.if-level-eq0.true in
+    subst (λ (l : ℕ). NamesUnder (g.P.Pages.view c.args.pages.now).page most l c.args.page c.copy_from.result) (sym is) (c.copy_from.ensures.names told most)
+
 pub returns-in-Err-clause-names : goal.returns-in-Err-clause-names
-returns-in-Err-clause-names g t c told =
+returns-in-Err-clause-names g t c told most le =
     let some = c.if-level-eq0.false in
-    names_failed Turn Bool (g.P.Pages.view c.args.pages.now).page (c.args.level + 1) c.in-Err.fault (c.in-Err.ensures.names told c.args.level (omega arith))
+    let next : suc (c.args.level - 1) ≡ c.args.level = omega arith in
+    under_failed Turn Bool (g.P.Pages.view c.args.pages.now).page most c.args.level c.args.page c.in-Err.fault
+    (subst (λ (l : ℕ). NamesUnder {T = Turn} (g.P.Pages.view c.args.pages.now).page most l c.args.page (Err c.in-Err.fault)) next (c.in-Err.ensures.names told most (c.args.level - 1) (omega arith)))
+
+pub returns-in-Ok-false-clause-names : goal.returns-in-Ok-false-clause-names
+returns-in-Ok-false-clause-names g t c told most le =
+    let v = g.P.Pages.view in
+    let reads = c.in-Ok.ensures.reads in
+    let still : IsTrue (v c.read_turn.new.pages).is_told = subst IsTrue (sym reads.counts.told) told in
+    let more = c.in-Ok-false.ensures.reads in
+    let stays : IsTrue (v c.seek_below.new.pages).is_told = subst IsTrue (sym more.counts.told) still in
+    let some = c.if-level-eq0.false in
+    let next : c.args.level ≡ suc (c.args.level - 1) = omega arith in
+    let same = (more.same (λ failed. failed) still).pages ∙ (reads.same (λ failed. failed) told).pages in
+    under_same (v c.args.pages.now).page (v c.seek_below.new.pages).page most c.args.level (c.args.level - 1) c.args.page c.follow.result next same
+    (c.follow.ensures.names stays most c.args.page (omega arith)
+    (subst (λ (m : ℕ → List ℕ). IsAmong c.in-Ok.turn.next (children_of m c.args.page)) (sym same) (c.in-Ok.ensures.behind told)))
+
+pub returns-in-Err-seek_below-clause-names : goal.returns-in-Err-seek_below-clause-names
+returns-in-Err-seek_below-clause-names g t c told most le =
+    let v = g.P.Pages.view in
+    let reads = c.in-Ok.ensures.reads in
+    let still : IsTrue (v c.read_turn.new.pages).is_told = subst IsTrue (sym reads.counts.told) told in
+    let some = c.if-level-eq0.false in
+    let next : c.args.level ≡ suc (c.args.level - 1) = omega arith in
+    under_child {T = Bool} (v c.args.pages.now).page (v c.read_turn.new.pages).page most c.args.level (c.args.level - 1) c.args.page c.in-Ok.turn.child (Err c.in-Err-seek_below.fault) next
+    (reads.same (λ failed. failed) told).pages (c.in-Ok.ensures.child told) (c.in-Err-seek_below.ensures.names still most (omega arith))
 
 pub returns-in-Ok-true-clause-sought : goal.returns-in-Ok-true-clause-sought
 returns-in-Ok-true-clause-sought g t c told low high head lo hi =

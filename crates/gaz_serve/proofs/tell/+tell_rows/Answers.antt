@@ -5,6 +5,8 @@ use Rattle.gaz_outside.proofs.Runs.{areas_stay_on}
 use Rattle.gaz_reply.specs.Reply.{with_ends}
 use Rattle.gaz_reply.proofs.Cuts.{cut_in_first, cut_in_both, same_cut}
 use Rattle.gaz_reply.proofs.Pieces.{both, front, same_print}
+use Rattle.gaz_num.specs.declared.words.Table.TheVariants.{Rows}
+use Rattle.gaz_plain.specs.Gazetteer.{line_with}
 use Rattle.gaz_serve.specs.Tell.{rest_text}
 use Rattle.gaz_serve.proofs.Rows.{row_first}
 use Rattle.gaz_serve.proofs.tell.+tell_rows.Goals as goal
@@ -14,7 +16,7 @@ returns-in-Ok-clause-printed g t c =
     let names = g.I.OfRow.names in
     let all = c.args.rows.now in
     same_print _ _ _ _ c.tell_rows.result
-    (row_first c.args.gaz.now names all _ c.in-Some.line.now c.args.told c.in-len1-up.len_at_least (ap option_copied (sym c.in-Some.is) ∙ c.get.ensures))
+    (row_first c.args.gaz.now names all c.first-item.result c.in-Some.line.now c.args.told c.in-len1-up.len_at_least (ap option_copied (sym c.in-Some.is) ∙ c.get.ensures ∙ ap (λ id. line_with Rows (id ∷ []) c.args.gaz.now) c.id.ensures ∙ ap (λ first. line_with Rows (names first ∷ []) c.args.gaz.now) c.first-item.is))
     (both (with_ends (c.in-Some.line.now ∷ [])) (rest_text c.args.gaz.now (map names (take (length all - 1) (drop 1 all))) (c.args.told + 1)) _ _ _ c.tell_rows.result c.in-Ok.ensures.printed c.tell_rows.ensures.printed)
 
 pub returns-in-Ok-clause-moments : goal.returns-in-Ok-clause-moments
@@ -22,7 +24,7 @@ returns-in-Ok-clause-moments g t c =
     let names = g.I.OfRow.names in
     let all = c.args.rows.now in
     same_cut _ _ _ _
-    (row_first c.args.gaz.now names all _ c.in-Some.line.now c.args.told c.in-len1-up.len_at_least (ap option_copied (sym c.in-Some.is) ∙ c.get.ensures))
+    (row_first c.args.gaz.now names all c.first-item.result c.in-Some.line.now c.args.told c.in-len1-up.len_at_least (ap option_copied (sym c.in-Some.is) ∙ c.get.ensures ∙ ap (λ id. line_with Rows (id ∷ []) c.args.gaz.now) c.id.ensures ∙ ap (λ first. line_with Rows (names first ∷ []) c.args.gaz.now) c.first-item.is))
     (cut_in_both (with_ends (c.in-Some.line.now ∷ [])) (rest_text c.args.gaz.now (map names (take (length all - 1) (drop 1 all))) (c.args.told + 1)) _ _ _ c.in-Ok.ensures.told c.in-Ok.ensures.areas c.in-Ok.ensures.printed c.in-Ok.ensures.moments c.tell_rows.ensures.moments)
 
 pub returns-in-Ok-clause-areas : goal.returns-in-Ok-clause-areas
@@ -35,7 +37,7 @@ returns-in-Err-clause-printed g t c =
     let names = g.I.OfRow.names in
     let all = c.args.rows.now in
     subst (λ text. PrintsFront text (g.T.Station.view c.args.station.now) (g.T.Station.view c.write_row.new.station))
-    (row_first c.args.gaz.now names all _ c.in-Some.line.now c.args.told c.in-len1-up.len_at_least (ap option_copied (sym c.in-Some.is) ∙ c.get.ensures))
+    (row_first c.args.gaz.now names all c.first-item.result c.in-Some.line.now c.args.told c.in-len1-up.len_at_least (ap option_copied (sym c.in-Some.is) ∙ c.get.ensures ∙ ap (λ id. line_with Rows (id ∷ []) c.args.gaz.now) c.id.ensures ∙ ap (λ first. line_with Rows (names first ∷ []) c.args.gaz.now) c.first-item.is))
     (front (with_ends (c.in-Some.line.now ∷ [])) (rest_text c.args.gaz.now (map names (take (length all - 1) (drop 1 all))) (c.args.told + 1)) _ _ c.in-Err.ensures.printed)
 
 pub returns-in-Err-clause-moments : goal.returns-in-Err-clause-moments
@@ -43,5 +45,5 @@ returns-in-Err-clause-moments g t c =
     let names = g.I.OfRow.names in
     let all = c.args.rows.now in
     same_cut _ _ _ _
-    (row_first c.args.gaz.now names all _ c.in-Some.line.now c.args.told c.in-len1-up.len_at_least (ap option_copied (sym c.in-Some.is) ∙ c.get.ensures))
+    (row_first c.args.gaz.now names all c.first-item.result c.in-Some.line.now c.args.told c.in-len1-up.len_at_least (ap option_copied (sym c.in-Some.is) ∙ c.get.ensures ∙ ap (λ id. line_with Rows (id ∷ []) c.args.gaz.now) c.id.ensures ∙ ap (λ first. line_with Rows (names first ∷ []) c.args.gaz.now) c.first-item.is))
     (cut_in_first (with_ends (c.in-Some.line.now ∷ [])) (rest_text c.args.gaz.now (map names (take (length all - 1) (drop 1 all))) (c.args.told + 1)) _ _ c.in-Err.ensures.moments)

@@ -2,10 +2,10 @@ use Rattle.std.proofs.Common.{◌≡◌, ◌≤◌, ◌<◌, ◌-◌, ℕ, List,
 use Rattle.std.specs.Prelude.{IsTrue, Result, Ok, Err}
 use Rattle.gaz_leaf.specs.Node.{key_in}
 use Rattle.gaz_tree.specs.declared.shrunk.Shrunk.{Shrunk}
-use Rattle.gaz_tree.specs.declared.shrunk.Shrunk.TheVariants.{Absent, Fine}
+use Rattle.gaz_tree.specs.declared.shrunk.Shrunk.TheVariants.{Absent, Fine, Low}
 use Rattle.gaz_tree.specs.Tree.{next_key, IsHead, HasTwo, children_of}
 use Rattle.gaz_tree.specs.Remove.{Removes}
-use Rattle.gaz_tree.proofs.Answered.{set_out, chain_same}
+use Rattle.gaz_tree.proofs.Answered.{set_out, step_out, chain_same}
 use Rattle.gaz_tree.proofs.Removes.{removes_over, fine_answered, low_result, absent_answered}
 use Rattle.gaz_leaf.specs.Node.{count_of}
 use Rattle.gaz_page.specs.declared.pages.PageFault.{PageFault}
@@ -37,16 +37,14 @@ returns-in-Ok-Low-clause-removes g t c told low high head lo hi lies chain =
     let k = key_in c.args.key in
     let to = c.in-Ok.way in
     let page = c.args.page in
-    let set = set_out old mid c.args.level below page low high k to same next head lo hi lies (c.in-Ok.ensures.leads told) in
-    let w = set.way.way in
     let less = v c.remove_below.new.pages in
-    let removed = subst (λ (r : Shrunk). Removes mid less below to.child w.at (next_key high w.ys) k (Ok r)) c.in-Ok-Low.field-0-is
-    (c.in-Ok-Low.ensures.removes still w.at (next_key high w.ys) set.child.tree.1 w.start w.end set.child.lies (chain_same old mid same chain)) in
+    let step = step_out old mid less c.args.level below page low high k to c.in-Ok-Low.field-0 Low same next head lo hi lies chain (c.in-Ok.ensures.leads told) c.in-Ok-Low.field-0-is
+    (c.in-Ok-Low.ensures.removes still) in
     let again : IsTrue less.is_told = subst IsTrue (sym c.remove_below.ensures.counts.told) still in
     let last = v c.mend.new.pages in
     subst (λ (l : ℕ). Removes old last l page low high k c.mend.result) (sym next)
     (removes_over old mid last (suc below) page low high k c.mend.result same reads.unchanged
-    (low_result mid less last below page low high k to.place to.child c.kind_of.result less.is_told c.mend.result set.way c.kind_of.ensures removed again c.mend.ensures.mended))
+    (low_result mid less last below page low high k to.place to.child c.kind_of.result less.is_told c.mend.result step.way c.kind_of.ensures step.removed again c.mend.ensures.mended))
 
 pub returns-in-Ok-Fine-clause-removes : goal.returns-in-Ok-Fine-clause-removes
 returns-in-Ok-Fine-clause-removes g t c told low high head lo hi lies chain =
@@ -62,14 +60,12 @@ returns-in-Ok-Fine-clause-removes g t c told low high head lo hi lies chain =
     let k = key_in c.args.key in
     let to = c.in-Ok.way in
     let page = c.args.page in
-    let set = set_out old mid c.args.level below page low high k to same next head lo hi lies (c.in-Ok.ensures.leads told) in
-    let w = set.way.way in
     let less = v c.remove_below.new.pages in
-    let removed = subst (λ (r : Shrunk). Removes mid less below to.child w.at (next_key high w.ys) k (Ok r)) c.in-Ok-Fine.field-0-is
-    (c.in-Ok-Fine.ensures.removes still w.at (next_key high w.ys) set.child.tree.1 w.start w.end set.child.lies (chain_same old mid same chain)) in
+    let step = step_out old mid less c.args.level below page low high k to c.in-Ok-Fine.field-0 Fine same next head lo hi lies chain (c.in-Ok.ensures.leads told) c.in-Ok-Fine.field-0-is
+    (c.in-Ok-Fine.ensures.removes still) in
     subst (λ (l : ℕ). Removes old less l page low high k (Ok Fine)) (sym next)
     (removes_over old mid less (suc below) page low high k (Ok Fine) same reads.unchanged
-    (fine_answered mid less below page low high k to.place to.child set.way removed.0 removed.1))
+    (fine_answered mid less below page low high k to.place to.child step.way step.removed.0 step.removed.1))
 
 pub returns-in-Ok-Absent-clause-removes : goal.returns-in-Ok-Absent-clause-removes
 returns-in-Ok-Absent-clause-removes g t c told low high head lo hi lies chain =
@@ -85,14 +81,12 @@ returns-in-Ok-Absent-clause-removes g t c told low high head lo hi lies chain =
     let k = key_in c.args.key in
     let to = c.in-Ok.way in
     let page = c.args.page in
-    let set = set_out old mid c.args.level below page low high k to same next head lo hi lies (c.in-Ok.ensures.leads told) in
-    let w = set.way.way in
     let less = v c.remove_below.new.pages in
-    let absent = subst (λ (r : Shrunk). Removes mid less below to.child w.at (next_key high w.ys) k (Ok r)) c.in-Ok-Absent.field-0-is
-    (c.in-Ok-Absent.ensures.removes still w.at (next_key high w.ys) set.child.tree.1 w.start w.end set.child.lies (chain_same old mid same chain)) in
+    let step = step_out old mid less c.args.level below page low high k to c.in-Ok-Absent.field-0 Absent same next head lo hi lies chain (c.in-Ok.ensures.leads told) c.in-Ok-Absent.field-0-is
+    (c.in-Ok-Absent.ensures.removes still) in
     subst (λ (l : ℕ). Removes old less l page low high k (Ok Absent)) (sym next)
     (removes_over old mid less (suc below) page low high k (Ok Absent) same reads.unchanged
-    (absent.0, absent_answered mid below page low high k to.place to.child set.way absent.1, absent.2))
+    (step.removed.0, absent_answered mid below page low high k to.place to.child step.way step.removed.1, step.removed.2))
 
 pub returns-then-level-eq0-clause-fine : goal.returns-then-level-eq0-clause-fine
 returns-then-level-eq0-clause-fine g t c told low high head two lo hi lies chain =
@@ -137,14 +131,12 @@ returns-in-Ok-Low-clause-fine g t c told low high head two lo hi lies chain =
     let k = key_in c.args.key in
     let to = c.in-Ok.way in
     let page = c.args.page in
-    let set = set_out old mid c.args.level below page low high k to same next head lo hi lies (c.in-Ok.ensures.leads told) in
-    let w = set.way.way in
     let less = v c.remove_below.new.pages in
-    let removed = subst (λ (r : Shrunk). Removes mid less below to.child w.at (next_key high w.ys) k (Ok r)) c.in-Ok-Low.field-0-is
-    (c.in-Ok-Low.ensures.removes still w.at (next_key high w.ys) set.child.tree.1 w.start w.end set.child.lies (chain_same old mid same chain)) in
+    let step = step_out old mid less c.args.level below page low high k to c.in-Ok-Low.field-0 Low same next head lo hi lies chain (c.in-Ok.ensures.leads told) c.in-Ok-Low.field-0-is
+    (c.in-Ok-Low.ensures.removes still) in
     let again : IsTrue less.is_told = subst IsTrue (sym c.remove_below.ensures.counts.told) still in
     let many : 2 ≤ count_of (old.page page) = subst (λ (l : ℕ). HasTwo old.page l page) next two in
-    mended_fine mid less (v c.mend.new.pages) below page low high k to.place to.child c.kind_of.result c.mend.result set.way c.kind_of.ensures removed
+    mended_fine mid less (v c.mend.new.pages) below page low high k to.place to.child c.kind_of.result c.mend.result step.way c.kind_of.ensures step.removed
     (subst (λ (m : ℕ → List ℕ). 2 ≤ count_of (m page)) (sym same.pages) many)
     (subst (λ (m : ℕ → List ℕ). to.place < count_of (m page)) (sym same.pages) (c.in-Ok.ensures.place told)) (c.mend.ensures.names again)
 

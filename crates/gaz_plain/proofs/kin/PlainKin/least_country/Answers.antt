@@ -1,37 +1,26 @@
-use Rattle.std.proofs.Common.{Some, ap, sym, subst, ◌∙◌, refl}
-use Rattle.std.specs.Prelude.{All, unwrap_or}
+use Rattle.std.proofs.Common.{[], ◌∷◌, ap, sym, subst, ◌∙◌}
 use Rattle.gaz_num.specs.Pieces.{column}
-use Rattle.gaz_num.specs.declared.words.Kind.TheVariants.{Row}
 use Rattle.gaz_num.specs.declared.words.Table.TheVariants.{Rows}
 use Rattle.gaz_row.specs.Row.{id_of}
 use Rattle.gaz_parent.specs.Parent.{may_be, is_country_of}
-use Rattle.gaz_plain.specs.Gazetteer.{IsGazetteer, IsLine}
-use Rattle.gaz_plain.proofs.KeyOrder.{All-rest}
-use Rattle.gaz_plain.proofs.Foremost.{passed_over, first_taken, none_taken}
+use Rattle.gaz_plain.specs.Gazetteer.{IsGazetteer, line_with}
+use Rattle.gaz_plain.specs.Ordered.{country_number, row_numbers, is_one_in}
+use Rattle.gaz_plain.proofs.Sought.{sought_on, sought_found, sought_none, numbered_sought, country_numbered}
 use Rattle.gaz_plain.proofs.kin.PlainKin.least_country.Goals as goal
 
-pub loop-line-init : goal.loop-line-init
-loop-line-init c =
-    let all = c.into_iter-line-iterator.ensures.into_iter_gives ∙ c.lines-line-items.ensures in
-    rw (all, c.self.view_is) (record { lines = ((subst IsGazetteer c.self.view_is c.self.invariant).tables Rows).each; first = refl })
+pub loop-id-init : goal.loop-id-init
+loop-id-init c =
+    let is = subst IsGazetteer c.self.view_is c.self.invariant in
+    let all = c.into_iter-id-iterator.ensures.into_iter_gives in
+    rw all (numbered_sought c.args.self.now (may_be (id_of c.args.row.now) (is_country_of (column 9 c.args.row.now))) (country_number (column 9 c.args.row.now)) (λ other passes. country_numbered c.args.row.now other passes) c.with_number-id-items.result c.with_number-id-items.ensures.rising
+    (λ id row at there. c.with_number-id-items.ensures.all id row (ap (line_with Rows (id ∷ [])) c.self.view_is ∙ at) (ap (is_one_in (row_numbers row)) (c.country_number.ensures ∙ ap country_number c.country.ensures) ∙ there)))
 
-pub loop-line-preserved : goal.loop-line-preserved
-loop-line-preserved c =
-    let inv = c.loop-line.invariant in
-    let steps = c.in-Some.ensures.steps in
-    let may = (may_be (id_of c.args.row.now) (is_country_of (column 9 c.args.row.now))) in
-    record {
-      lines = All-rest (IsLine Row) c.in-Some.line.now c.next.new.self (subst (All (IsLine Row)) steps inv.lines);
-      first = passed_over may c.args.self.now.rows c.in-Some.line.now c.loop-line.line-iterator c.next.new.self steps (ap may (sym c.of-other.ensures) ∙ sym c.is_country.ensures ∙ c.if-is_country.false) inv.first;
-    }
+pub loop-id-preserved : goal.loop-id-preserved
+loop-id-preserved c = sought_on (may_be (id_of c.args.row.now) (is_country_of (column 9 c.args.row.now))) c.args.self.now.rows c.in-Some.field-0.now c.loop-id.id-iterator c.next.new.self c.in-Some.ensures.steps (sym c.is_country.ensures ∙ c.if-is_country.false) c.loop-id.invariant
 
 pub returns-then-is_country : goal.returns-then-is_country
 returns-then-is_country c =
-    let may = (may_be (id_of c.args.row.now) (is_country_of (column 9 c.args.row.now))) in
-    let own = sym (ap (λ id. unwrap_or id 0) c.id.ensures) ∙ ap id_of c.of-other.ensures in
-    ap Some own
-    ∙ first_taken may c.args.self.now.rows c.in-Some.line.now c.loop-line.line-iterator c.next.new.self c.in-Some.ensures.steps (ap may (sym c.of-other.ensures) ∙ sym c.is_country.ensures ∙ c.if-is_country.true) c.loop-line.invariant.first
-    ((subst IsGazetteer c.self.view_is c.self.invariant).tables Rows)
+    sought_found (may_be (id_of c.args.row.now) (is_country_of (column 9 c.args.row.now))) c.args.self.now.rows c.in-Some.field-0.now c.loop-id.id-iterator c.next.new.self c.in-Some.ensures.steps (sym c.is_country.ensures ∙ c.if-is_country.true) c.loop-id.invariant ((subst IsGazetteer c.self.view_is c.self.invariant).tables Rows)
 
 pub returns : goal.returns
-returns c = none_taken (may_be (id_of c.args.row.now) (is_country_of (column 9 c.args.row.now))) c.args.self.now.rows c.loop-line.line-iterator c.in-None.ensures.steps.0 c.loop-line.invariant.first ((subst IsGazetteer c.self.view_is c.self.invariant).tables Rows)
+returns c = sought_none (may_be (id_of c.args.row.now) (is_country_of (column 9 c.args.row.now))) c.args.self.now.rows c.loop-id.id-iterator c.in-None.ensures.steps.0 c.loop-id.invariant ((subst IsGazetteer c.self.view_is c.self.invariant).tables Rows)

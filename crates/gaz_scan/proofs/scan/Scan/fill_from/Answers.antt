@@ -1,8 +1,9 @@
-use Rattle.std.proofs.Common.{◌<◌, None, refl, subst, arith}
+use Rattle.std.proofs.Common.{◌≡◌, ◌-◌, suc, ◌<◌, None, refl, subst, arith}
 use Rattle.std.specs.Prelude.{Ok, Bool}
 use Rattle.gaz_leaf.specs.Node.{key_in, count_of}
 use Rattle.gaz_scan.specs.Seek.{Copies}
 use Rattle.gaz_leaf.proofs.Keys.{joined_fits}
+use Rattle.gaz_scan.proofs.Places.{under_whole}
 use Rattle.gaz_scan.proofs.Scans.{filled_past, filled_more, filled_none, fill_failed}
 use Rattle.gaz_scan.proofs.scan.Scan.fill_from.Goals as goal
 
@@ -38,3 +39,10 @@ pub after_last-self-requires : goal.after_last-self-requires
 after_last-self-requires g c =
     let one : c.seek_below.new.copied.at < count_of c.seek_below.new.copied.bytes = subst (λ (b : Bool). Copies (Ok b) c.args.self.now.copied c.seek_below.new.copied) c.in-Ok-true.field-0-test c.in-Ok-true.ensures.copies in
     record { some = omega arith }
+
+pub returns-in-Err-clause-names : goal.returns-in-Err-clause-names
+returns-in-Err-clause-names g c told =
+    let tree = c.args.self.now.tree in
+    let some = c.if-self-eq0.false in
+    let tall : tree.height ≡ suc (tree.height - 1) = omega arith in
+    under_whole Bool Unit (g.P.Pages.view c.args.pages.now).page tree.height (tree.height - 1) tree.top c.in-Err.fault tall (c.in-Err.ensures.names told (tree.height - 1) (omega arith))

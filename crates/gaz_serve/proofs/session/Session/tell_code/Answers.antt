@@ -19,7 +19,7 @@ pub returns-in-Some-clause-given : goal.returns-in-Some-clause-given
 returns-in-Some-clause-given g c =
     lines_given (state_of c.args.self.now) (option_to_list (line_with Codes c.args.code.now (state_of c.args.self.now).gaz)) (g.T.Station.view c.args.station.now) (g.T.Station.view c.tell_found.new.station) c.tell_found.result (λ o told left. g.met.T.Station.only_now c.args.station.now o told left)
     c.in-Some.field-0 (ap (λ session. session.lines.date) (sym c.self.view_is) ∙ sym c.date.ensures ∙ c.in-Some.is)
-    (subst (λ session. Replies (rows (option_to_list (line_with Codes c.args.code.now session.lines))) (g.T.Station.view c.args.station.now) (g.T.Station.view c.tell_found.new.station) c.tell_found.result) c.self.view_is (subst (λ line. Replies (rows (option_to_list line)) (g.T.Station.view c.args.station.now) (g.T.Station.view c.tell_found.new.station) c.tell_found.result) (c.admin.ensures ∙ ap (λ (code : List ℕ). line_with Codes code c.self.inside.gaz) c.as_bytes.ensures) c.tell_found.ensures.replies))
+    (subst (λ session. Replies (rows (option_to_list (line_with Codes c.args.code.now session.lines))) (g.T.Station.view c.args.station.now) (g.T.Station.view c.tell_found.new.station) c.tell_found.result) c.self.view_is (subst (λ line. Replies (rows (option_to_list line)) (g.T.Station.view c.args.station.now) (g.T.Station.view c.tell_found.new.station) c.tell_found.result) (c.admin.ensures ∙ ap (λ (code : List ℕ). line_with Codes code c.self.inside.gaz) c.as_bytes.ensures.value) c.tell_found.ensures.replies))
 
 pub returns-in-None-clause-open : goal.returns-in-None-clause-open
 returns-in-None-clause-open g c opened = open_still _ (g.T.Station.view c.args.station.now) (g.T.Station.view c.write_refusal.new.station) c.write_refusal.ensures.told c.write_refusal.ensures.areas opened
