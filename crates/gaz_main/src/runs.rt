@@ -13,7 +13,10 @@ pub(crate) const FILES: &[File<'static>] = &[
     (DUMP, &[A1, B2, C3]),
     (ALTERNATES, &["10\t1\tde\tEins\n"]),
     (LINKS, &["1\t2\tADM\n", "2\t3\n"]),
-    (COUNTRIES, &["# a comment\n", "BB\t\t\t\t\t\t\t\t\t\t\t\t\t\t\t\t3\n"]),
+    (
+        COUNTRIES,
+        &["# a comment\n", "BB\t\t\t\t\t\t\t\t\t\t\t\t\t\t\t\t3\n"],
+    ),
     (ADMIN1, &["AA.01\tOne\tOne\t2\n"]),
     (ADMIN2, &["AA.01.001\tTwo\tTwo\t3\n"]),
     (MODIFICATIONS, &[X2]),
