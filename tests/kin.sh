@@ -1,5 +1,5 @@
 #!/usr/bin/env bash
-# Chains and children over tables that are too long for tests/cases/kin.case: the ends of what a chain, an answer and the table of
+# tests/kin.sh [SEED]: chains and children over tables that are too long for tests/cases/kin.case: the ends of what a chain, an answer and the table of
 # countries may hold, and tables made at random, beside the rules as tests/lib/kin.py has them.
 set -u
 . "$(dirname "$0")/lib/expect.bash"
@@ -110,6 +110,7 @@ made_tables() {
     }'
     : > alternateNamesV2.txt
 }
+command -v python3 > /dev/null || { echo "skipped: made tables, since there is no python3"; finish; exit; }
 first=${1:-$RANDOM}
 for seed in $(seq "$first" $((first + 9))); do
     mkdir "made_$seed" && cd "made_$seed" || exit 1
