@@ -39,7 +39,7 @@ check closed_output $? 3
 
 # A trial prints what `serve` prints over the same files and requests; the second one finds a mirror.
 printf 'load 2000-01-01\nday 2000-01-02\nsearch maxRows=3\n' > requests.txt
-for words in '0 2' '7 1000' '7 3050'; do
+for words in '0 2' '7 1000' '7 3050' '7 100000'; do
     read -r start rows <<< "$words"
     rm -rf of_serve of_trial
     mkdir of_serve of_trial
