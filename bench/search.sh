@@ -12,6 +12,7 @@ cd "$folder"
 mawk -v n="$rows" 'BEGIN { for (i = 1; i <= n; i++)
     printf "%d\tMade place %d\tMade place %d\t\t%.5f\t%.5f\tP\tPPL%s\t%c%c\t\t%02d\t%03d\t\t\t%d\t\t%d\tEurope/Paris\t2024-02-01\n", i, i, i, (i * 7919 % 17990) / 100 - 89.95, (i * 104729 % 35990) / 100 - 179.95, i % 5 ? "" : "A", 65 + i % 26, 65 + int(i / 26) % 26, i % 100, i % 1000, i * 7919 % 1000003, i % 3000 }' > allCountries.txt
 mawk -v n="$rows" 'BEGIN { for (i = 1; i <= n; i++) printf "%d\t%d\tde\tGemachter Ort %d\t1\t\t\t\t\t\n%d\t%d\tfr\tLieu fait %d\t\t\t\t\t\t\n", 2 * i - 1, i, i, 2 * i, i, i }' > alternateNamesV2.txt
+: | tee hierarchy.txt countryInfo.txt admin1CodesASCII.txt > admin2Codes.txt
 program=$top/crates/gaz_main/out/gaz_main
 [ -x "$program" ] || { echo "the program isn't built: run ./gaz prove"; exit 1; }
 echo 'load 2024-03-01' | "$program" serve > /dev/null

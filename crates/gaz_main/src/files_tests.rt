@@ -21,19 +21,17 @@ fn listed(alloc: Global, files: &[File<'_>]) -> Result<Listed, AllocError> {
     Ok(all)
 }
 
+/// The files of a load that are empty here.
+const EMPTY: [&str; 5] = [ALTERNATES, LINKS, COUNTRIES, ADMIN1, ADMIN2];
+
 /// The files of a load, with this dump and nothing else.
 fn dump_alone(alloc: Global, dump: &[&str]) -> Result<Listed, AllocError> {
-    listed(
-        alloc,
-        &[
-            (DUMP, dump),
-            (ALTERNATES, &[]),
-            (LINKS, &[]),
-            (COUNTRIES, &[]),
-            (ADMIN1, &[]),
-            (ADMIN2, &[]),
-        ],
-    )
+    let mut all = Vec::new(alloc);
+    all.push((String::from_str(alloc, DUMP)?, joined(alloc, dump)?))?;
+    for name in &EMPTY {
+        all.push((String::from_str(alloc, name)?, Vec::new(alloc)))?;
+    }
+    Ok(all)
 }
 
 /// Runs these requests over a shelf that has the first of these files, and after each request that opens files the next ones.
