@@ -1,34 +1,28 @@
 #!/usr/bin/env bash
-# bench/commit.sh TIMES PAGES: commits PAGES pages of 4,096 bytes TIMES times through the redo log over real files, and beside
-# it writes the same bytes twice over with `dd conv=fsync`, once as the log and once as the pages, in one run.
-# With strace it prints how many writes and syncs a commit makes.
+# bench/commit.sh TIMES PAGES: commits PAGES pages of 4,096 bytes TIMES times through the redo log over real files, and beside it writes the same
+# bytes twice over with `dd conv=fsync`, once as the log and once as the pages, a process each time. The best of three runs.
 set -eu
-top=$(cd "$(dirname "$0")/.." && pwd)
-times=${1:?times} pages=${2:?pages}
-commits=$top/crates/gaz_commits/out/gaz_commits
-[ -x "$commits" ] || { echo "not built: run 'rt run -- 1 1' in crates/gaz_commits" >&2; exit 1; }
-folder=$(cd "$(mktemp -d -p "${BENCH_FOLDER:-.}")" && pwd)
-trap 'rm -rf "$folder"' EXIT
-cd "$folder"
-
-seconds() { awk -v from="$1" -v to="$2" 'BEGIN { printf "%.3f", to - from }'; }
-
-start=$(date +%s.%N)
-count=$("$commits" "$times" "$pages")
-took=$(seconds "$start" "$(date +%s.%N)")
-echo "gaz_commits: $times commits of $pages pages, $count pages in $took s, $(awk -v n="$count" -v t="$took" 'BEGIN { printf "%.0f", n / t }') pages a second"
-
-start=$(date +%s.%N)
-for _ in $(seq "$times"); do
-    dd if=/dev/zero of=log bs=4096 count="$pages" conv=fsync,notrunc status=none
-    dd if=/dev/zero of=pages bs=4096 count="$pages" conv=fsync,notrunc status=none
-done
-took=$(seconds "$start" "$(date +%s.%N)")
-echo "dd twice: $times times $pages pages, in $took s, $(awk -v n="$count" -v t="$took" 'BEGIN { printf "%.0f", n / t }') pages a second"
-
-if strace -o trace true 2> /dev/null; then
+. "$(dirname "$0")/lib.sh"
+number TIMES "${1-}"
+number PAGES "${2-}"
+need strace dd
+use_program gaz_commits 1 1
+pages=$(($1 * $2))
+commits() { # WAY
     rm -f mirror.*
-    strace -o trace -e trace=pwrite64,fdatasync,fsync "$commits" "$times" "$pages" > /dev/null
-    awk -v times="$times" '/^pwrite64/ { writes++; bytes += $NF } /^fdatasync|^fsync/ { syncs++ }
-        END { printf "a commit: %.1f writes, %.1f syncs, %.0f bytes\n", writes / times, syncs / times, bytes / times }' trace
-fi
+    settle
+    "$1" commits /dev/null "$program" "$times" "$each"
+}
+times=$1 each=$2
+for _ in 1 2 3; do
+    commits measure
+    # shellcheck disable=SC2016 # the inner shell has these words
+    measure dd /dev/null bash -c 'for ((n = 0; n < $1; n++)); do for file in log pages; do dd if=/dev/zero of=$file bs=4096 count="$2" conv=fsync,notrunc status=none; done; done' - "$times" "$each"
+done
+commits measure_writes
+echo "$pages" > wanted.out
+same commits commits.out wanted.out
+tell "$(commas "$times") commits of $(commas "$each") pages" gaz_commits commits "$pages" pages
+tell '' 'dd conv=fsync, twice' dd "$pages" pages
+show
+mawk -v times="$times" '{ printf "a commit: %.1f writes, %.1f syncs, %.0f bytes\n", $2 / times, $3 / times, $1 / times }' commits.disk
