@@ -36,7 +36,7 @@ job job_ask hierarchy 'chains'
 job job_ask children 'lists'
 job job_ask admin 'admin codes'
 
-# The run in a line, behind which the table stands.
+# The run in a line; the table stands below it.
 about() {
     local changes=
     git -C "$top" diff --quiet HEAD -- crates || changes=' with changes'
@@ -59,7 +59,7 @@ put_table() {
     echo '| what | this | beside it |'
     echo '|---|---|---|'
     mawk -F ' *[|] *' '
-        function cell() { return ($6 ~ /each/ ? $6 : $4 " s") ", " $8 " MB of memory" ($9 == "" ? "" : ", " $9 " bytes written") }
+        function cell() { return ($6 ~ / (µs|ms)/ ? $6 : $4 " s") ", " $8 " MB of memory" ($9 == "" ? "" : ", " $9 " bytes written") }
         function told() { if (what ~ /^(scan|load|open|day|get|equals|hierarchy|children):/) print "| " what " | " this " | " beside " |" }
         $2 != "" { told(); what = $2; this = cell(); beside = ""; next }
         { beside = beside (beside == "" ? "" : "; ") $3 ": " cell() }

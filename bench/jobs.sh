@@ -2,7 +2,8 @@
 # shellcheck shell=bash
 # shellcheck disable=SC2154 # bench and program are lib.sh's
 need sqlite3 strace
-sqlite=(sqlite3 -bail -batch -ascii -separator $'\t' -newline $'\n')
+# With its 2 MB of cache it would write the same pages many times over.
+sqlite=(sqlite3 -bail -batch -cmd 'PRAGMA cache_size = -65536' -ascii -separator $'\t' -newline $'\n')
 
 # The files that each job has its work from:
 

@@ -4,7 +4,7 @@ function commas(n,    s) {
     for (s = ""; length(n) > 3; n = substr(n, 1, length(n) - 3)) s = "," substr(n, length(n) - 2) s
     return n s
 }
-function short(x) { return x < 10 ? sprintf("%.2f", x) : x < 100 ? sprintf("%.1f", x) : commas(sprintf("%.0f", x)) }
+function short(x) { return x < 0.095 ? sprintf("%.2g", x) : x < 10 ? sprintf("%.2f", x) : x < 100 ? sprintf("%.1f", x) : commas(sprintf("%.0f", x)) }
 function of_one(seconds) { return seconds < 0.01 ? short(seconds * 1000000) " µs" : short(seconds * 1000) " ms" }
 # The least time of the processor in the runs of a name, and the greatest.
 function read_runs(name,    line, field) {
@@ -35,7 +35,7 @@ BEGIN {
     is_bound = work < shortest
     if (is_bound) work = shortest
     each = work / amount
-    rate = unit == "each" ? (is_bound ? "under " : "") of_one(each) " each" : (is_bound ? "over " : "") short(amount / work) " " unit "/s"
+    rate = unit == "each" ? (is_bound ? "under " : "") of_one(each) (amount > 1 ? " each" : "") : (is_bound ? "over " : "") short(amount / work) " " unit "/s"
     ratio = ""
     work = least - opened
     is_bound = work < shortest
