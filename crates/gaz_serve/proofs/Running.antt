@@ -308,6 +308,11 @@ pub line_told : (bytes : Option (List ℕ)) (given : List (List ℕ)) (line : Li
 line_told None given line old new gives told = tt
 line_told (Some text) given line old new gives told = told_line 4096 given line old new text gives told
 
+-- what goes on past the limit when no line is left is too long
+pub goes_past : (bytes : Option (List ℕ)) (lines : List (List ℕ)) (now : Option Rest) → IfSome now (λ rest. rest ≡ rest_with [] true) → IfSome bytes (λ text. Told 4096 lines now text) → IfSome bytes (λ text. is_too_long text ≡ true)
+goes_past None lines now none told = tt
+goes_past (Some text) lines now none told = (told_end 4096 lines now text true told none).1
+
 -- one more line was too long: some line that is longer than the limit, and that of the text where it is told
 pub long_told : (bytes : Option (List ℕ)) (given : List (List ℕ)) (shown : List ℕ) (old new : Option Rest) → 4096 < length shown → IsLine shown → old ≡ option_map (onto None) new → IfSome bytes (λ text. Told 4096 given old text) → (line : List ℕ) × (4096 < length line) × IsLine line × IfSome bytes (λ text. Told 4096 (given ++ line ∷ []) new text)
 long_told None given shown old new long is gives told = (shown, long, is, tt)

@@ -57,6 +57,7 @@ module _ {S F T : Type 0} (source : S → SourceView) (shelf : F → ShelfView) 
         none = none;
         unopened = λ is. unopened;
         emptied = λ is. no_status status 0 why (inl (omega arith)) is;
+        past = λ is. unlike status 7 why is (λ e. absurd (omega (arith, e))) (λ e. absurd (omega (arith, e))) (λ e. absurd (omega (arith, e)));
         taken = taken_nothing 65536 (left_of (source s));
         shelf_told = refl;
         numbers = inl (λ n. refl);

@@ -12,7 +12,7 @@ use Rattle.gaz_open.specs.Holds.{AllHold}
 use Rattle.gaz_open.specs.Opens.{NothingToRedo}
 use Rattle.gaz_turns.specs.Turns.{State, Turn, Verdict, plain, memory, shelf, HaveFiles, HasOnly, IsLegal, replies, has_change, shelf_refusals, blamed_last}
 use Rattle.gaz_turns.specs.Head.{Keeps, IsFoundOrStop, IsExit}
-use Rattle.gaz_num.specs.Pieces.{ended_lines}
+use Rattle.gaz_num.specs.Pieces.{ended_lines, is_too_long}
 use Rattle.gaz_num.specs.Words.{file_text}
 use Rattle.gaz_reply.specs.Reply.{Reply, reply_text}
 use Rattle.gaz_serve.specs.Step.{shelf_file}
@@ -141,6 +141,8 @@ pub record ServeRan {S F T : Type 0} (source : S → SourceView) (shelf : F → 
   pub unopened : (status ≡ 5) ⊎ (status ≡ 6) → IsUnopened old_source new_source old_shelf new_shelf (station old_station) (station new_station) status
   -- With 0 nothing is left.
   pub emptied : status ≡ 0 → IfSome (left_of (source new_source)) (λ bytes. bytes ≡ [])
+  -- With 7 the source goes on past the limit.
+  pub past : status ≡ 7 → IfSome (left_of (source old_source)) (λ bytes. is_too_long bytes ≡ true)
   -- At most 2^40 bytes of the source were taken, and then one piece of at most 65,536.
   pub taken : Taken 65536 (left_of (source old_source)) (left_of (source new_source))
   pub shelf_told : (shelf new_shelf).is_told ≡ (shelf old_shelf).is_told

@@ -64,6 +64,10 @@ pub record TrialRan {S F T : Type 0} (source : S → SourceView) (shelf : F → 
   pub still : IsStill (shelf files)
   pub still_now : IsStill (shelf files_now)
   pub ran : ServedOrRefused source shelf station true requests requests_now files files_now old new status
+  -- The requests never fail and are few, so it ends with neither of these.
+  pub others : (status ≢ 4) × (status ≢ 7)
+  -- Without a fault of the station, with memory at the start and over areas that are a mirror it ends with 0, or is refused with 1.
+  pub complete : (HasRisen (station old).faults (station new).faults → ⊥) → status ≢ 5 → status ≢ 6 → (status ≡ 0) ⊎ (status ≡ 1)
 
 -- A trial over a station, or memory was wanting for its files, with status 5.
 abbrev pub TrialEnds : {S F T : Type 0} → (S → SourceView) → (F → ShelfView) → (T → StationView) → ℕ → ℕ → T → T → ℕ → Type 0

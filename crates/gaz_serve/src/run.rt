@@ -1,6 +1,7 @@
 //! A run of requests, one line of the source after another.
-ghost use Rattle.std.specs.Prelude.{◌≡◌, ◌≢◌, ◌⊎◌, ◌^◌, ◌∷◌, [], IsTrue, IfOk, IfSome, codes, vec_len};
+ghost use Rattle.std.specs.Prelude.{◌≡◌, ◌≢◌, ◌⊎◌, ◌^◌, ◌∷◌, [], IsTrue, IfOk, IfSome, codes, vec_len, true};
 ghost use Rattle.gaz_outside.specs.Outside.{RisesOnce, SameNumbers, NoneOpen, left_of};
+ghost use Rattle.gaz_num.specs.Pieces.{is_too_long};
 ghost use Rattle.gaz_num.specs.Refusal.{request};
 ghost use Rattle.gaz_lines.specs.Cutter.{line_limit_of, file_limit_of, IsFresh};
 ghost use Rattle.gaz_open.specs.Content.{Mirrors};
@@ -52,6 +53,7 @@ pub(crate) fn run<S: Source, F: Shelf, T: Station>(
     ensures station_kept { result ≢ 3 → (T.view station.new).faults ≡ (T.view station.old).faults }
     ensures source { result ≡ 4 → RisesOnce (S.view source.old).faults (S.view source.new).faults }
     ensures source_kept { result ≢ 4 → (S.view source.new).faults ≡ (S.view source.old).faults }
+    ensures past { result ≡ 7 → IfSome (left_of (S.view source.old)) (λ bytes. is_too_long bytes ≡ true) }
     ensures told { (T.view station.new).is_told ≡ (T.view station.old).is_told }
     ensures others { (result ≡ 0) ⊎ (result ≡ 3) ⊎ (result ≡ 4) ⊎ (result ≡ 7) }
 {

@@ -1,4 +1,4 @@
-use Rattle.std.proofs.Common.{◌≡◌, ◌<◌, length, ◌∙◌, refl, sym, subst, inl, inr, arith, Bool, true, false, IsTrue}
+use Rattle.std.proofs.Common.{◌≡◌, ◌<◌, [], ◌∷◌, ◌++◌, length, ◌∙◌, refl, sym, subst, inl, inr, arith, Bool, true, false, IsTrue}
 use Rattle.std.proofs.lemmas.Bool.{false≢true}
 use Rattle.std.specs.Prelude.{codes}
 use Rattle.gaz_outside.specs.Outside.{left_of}
@@ -9,7 +9,7 @@ use Rattle.gaz_turns.specs.Turns.{state_after}
 use Rattle.gaz_serve.specs.declared.step.EndFault.{EndFault}
 use Rattle.gaz_serve.proofs.Changing.{closes_on, closes_told}
 use Rattle.gaz_serve.proofs.Fitting.{open_still}
-use Rattle.gaz_serve.proofs.Running.{way_first, run_ends, run_fails, run_cut, next_way, long_step, long_told, line_told}
+use Rattle.gaz_serve.proofs.Running.{way_first, run_ends, run_fails, run_cut, next_way, long_step, long_told, line_told, goes_past}
 use Rattle.gaz_serve.proofs.Telling.{tells_nothing, tells_more, tells_cut, tells_all}
 use Rattle.gaz_serve.proofs.Taken.{counted_start, counted_line, answered_nothing, answered_more, answered_all, answered_next}
 use Rattle.gaz_serve.proofs.run.run.Goals as goal
@@ -27,6 +27,7 @@ loop-line-init g c = record {
   reads = inl c.requires.fresh.reads;
   ended = λ is. absurd (false≢true (sym c.requires.fresh.ended ∙ is));
   counted = inl (counted_start c.args.cutter.now _ c.requires.fresh c.requires.file_limit);
+  begun = ([], told_start 4096 c.args.cutter.now _ c.requires.fresh c.requires.line_limit c.requires.file_limit);
   heard = answered_nothing 65536 _ _;
   shelf_told = refl;
   numbers = inl (λ n. refl);
@@ -50,6 +51,12 @@ returns-in-Err-FileTooLong-clause-answers g c told shelf_told first mirrors =
 
 pub returns-in-Err-FileTooLong-clause-failures : goal.returns-in-Err-FileTooLong-clause-failures
 returns-in-Err-FileTooLong-clause-failures g c = tells_all _ _ _ _ c.loop-line.invariant.failures 7 (λ is. absurd (omega (arith, is)))
+
+pub returns-in-Err-FileTooLong-clause-past : goal.returns-in-Err-FileTooLong-clause-past
+returns-in-Err-FileTooLong-clause-past g c is =
+    let gave = rw (c.in-Err-FileTooLong.is, c.in-Err-FileTooLong.field-0-is) at c.next_source.follows.holds-at-none.gave in
+    let begun = c.loop-line.invariant.begun in
+    goes_past _ begun.0 _ gave.gives.1 begun.1
 
 pub returns-in-Err-Failed-clause-answers : goal.returns-in-Err-Failed-clause-answers
 returns-in-Err-Failed-clause-answers g c told shelf_told first mirrors =
@@ -97,6 +104,7 @@ loop-line-preserved-in_default g c =
         | inl k ↦ counted_line _ _ _ _ _ c.in-Ok-Some.line.now _ _ _ gave.numbers gave.line.cuts k
         | inr ended ↦ inr (gave.still_ended ended)
       ];
+      begun = (i.begun.0 ++ c.in-Ok-Some.line.now ∷ [], line_told _ i.begun.0 c.in-Ok-Some.line.now _ _ gave.gives i.begun.1);
       heard = answered_more _ _ _ _ _ gave.numbers (answered_next (λ s. left_of (g.S.Source.view s)) _ _ _ _ _ _ _ _ (λ is. (e.rests is).0) i.counted e.waits i.heard);
       numbers = closes_on c.answer.ensures.closes.0 (g.F.Shelf.view c.args.shelf.now) (g.F.Shelf.view c.loop-line.shelf) (g.F.Shelf.view c.answer.new.shelf) i.numbers c.answer.ensures.closes.1;
       shelf_told = closes_told c.answer.ensures.closes.0 (g.F.Shelf.view c.loop-line.shelf) (g.F.Shelf.view c.answer.new.shelf) c.answer.ensures.closes.1 ∙ i.shelf_told;
@@ -148,6 +156,7 @@ loop-line-preserved g c =
         | inl k ↦ counted_line _ _ _ _ _ gave.refuses.line _ _ _ gave.numbers.0 gave.refuses.cuts k
         | inr ended ↦ inr (gave.still_ended ended)
       ];
+      begun = let line = long_told _ i.begun.0 gave.refuses.line _ _ long gave.refuses.cuts.is_line gave.gives i.begun.1 in (i.begun.0 ++ line.0 ∷ [], line.3);
       heard = answered_more _ _ _ _ _ gave.numbers.0 (answered_next (λ s. left_of (g.S.Source.view s)) _ _ _ _ _ _ _ _ (λ is. (e.rests is).0) i.counted e.waits i.heard);
       shelf_told = i.shelf_told;
       numbers = i.numbers;

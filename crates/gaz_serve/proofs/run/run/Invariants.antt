@@ -1,7 +1,8 @@
-use Rattle.std.proofs.Common.{◌≡◌, ◌⊎◌, IsTrue}
+use Rattle.std.proofs.Common.{◌≡◌, ◌⊎◌, ℕ, List, IsTrue}
 use Rattle.std.specs.Prelude.{IfSome, []}
 use Rattle.gaz_outside.specs.Outside.{SameNumbers, NoneOpen, left_of}
 use Rattle.gaz_lines.specs.Cutter.{rest, pending, line_of, HasEnded, MayReadSource, line_limit_of, allowed_of}
+use Rattle.gaz_lines.proofs.Told.{Told}
 use Rattle.gaz_open.specs.Content.{Mirrors}
 use Rattle.gaz_turns.specs.Turns.{State}
 use Rattle.gaz_serve.specs.Session.{IsOpen}
@@ -21,6 +22,8 @@ invariant-loop-line g l = record {
   reads : MayReadSource l.cutter;
   ended : HasEnded l.cutter → IfSome (left_of (g.S.Source.view l.source)) (λ bytes. bytes ≡ []);
   counted : Counted (line_of l.cutter) (allowed_of l.cutter) (pending l.cutter (left_of (g.S.Source.view l.source))) (left_of (g.S.Source.view l.fn.source)) ⊎ HasEnded l.cutter;
+  -- The lines that were given are the first of the source's, and the others are still to come.
+  begun : (lines : List (List ℕ)) × IfSome (left_of (g.S.Source.view l.fn.source)) (λ text. Told 4096 lines (rest l.cutter (left_of (g.S.Source.view l.source))) text);
   heard : IsHeard 65536 (left_of (g.S.Source.view l.fn.source)) (left_of (g.S.Source.view l.source)) (line_of l.cutter);
   shelf_told : (g.F.Shelf.view l.shelf).is_told ≡ (g.F.Shelf.view l.fn.shelf).is_told;
   numbers : SameNumbers (g.F.Shelf.view l.fn.shelf) (g.F.Shelf.view l.shelf) ⊎ NoneOpen (g.F.Shelf.view l.shelf);

@@ -69,6 +69,7 @@ returns-in-Ok-start g c =
         none = λ is. opened_status c.run.result e.others (inr is);
         unopened = λ is. opened_status c.run.result e.others is;
         emptied = e.emptied;
+        past = e.past;
         taken = e.taken;
         shelf_told = e.shelf_told;
         numbers = e.numbers;
