@@ -1,0 +1,108 @@
+-- The tags of the keys of a line.
+use Rattle.std.proofs.Common.{◌≡◌, ◌<◌, ℕ, zero, suc, Bool, true, false, ◌^◌, List, [], ◌∷◌, ◌++◌, length, replicate, refl, subst, sym, ◌∙◌, ap, arith, inl, inr, Option, Some, None}
+use Rattle.std.specs.Prelude.{◌⊎◌, Contains, slice_index_or, All}
+use Rattle.std.specs.Int.{w32, to_be_bytes}
+use Rattle.gaz_num.specs.declared.words.Table.{Table}
+use Rattle.gaz_num.specs.declared.words.Table.TheVariants.{Rows, Alternates, Links, Countries, Codes}
+use Rattle.gaz_keys.specs.Keys.{place_key, alternate_key, link_key, reverse_key, country_key, code_key, text_key, box_key, division_key, path_key}
+use Rattle.gaz_keys.specs.Parts.{tag_of, has_place}
+use Rattle.gaz_keys.specs.Lines.{key_at, more_keys, division_keys, division_level, named_key, ascii_key, lying_key, divided_key}
+
+-- what a list contains stands at its front or behind it
+pub contained : {X : Type 0} (x : X) (xs : List X) (y : X) → Contains (x ∷ xs) y → (x ≡ y) ⊎ Contains xs y
+contained x xs y has = by has.0 has.1 has.2
+  where
+    by : (k : ℕ) → k < length (x ∷ xs) → slice_index_or (x ∷ xs) k y ≡ y → (x ≡ y) ⊎ Contains xs y
+    by zero below is = inl is
+    by (suc k) below is = inr (k, omega arith, is)
+
+-- nothing is in an empty list
+pub contained_none : {X : Type 0} (y : X) → Contains [] y → ⊥
+contained_none y has = let below = has.1 in omega (arith, below)
+
+-- the tag of the keys by which the lines of a table stand at their places
+abbrev pub tag_for : Table → ℕ
+tag_for Rows = 1
+tag_for Alternates = 2
+tag_for Links = 3
+tag_for Countries = 5
+tag_for Codes = 6
+
+pub tag_at : (table : Table) (slot : ℕ) (line : List ℕ) → tag_of (key_at table slot line) ≡ tag_for table
+unfolding place_key alternate_key link_key country_key code_key
+tag_at Rows slot line = refl
+tag_at Alternates slot line = refl
+tag_at Links slot line = refl
+tag_at Countries slot line = refl
+tag_at Codes slot line = refl
+
+pub tag_has_place : (table : Table) → has_place (tag_for table) ≡ true
+tag_has_place Rows = refl
+tag_has_place Alternates = refl
+tag_has_place Links = refl
+tag_has_place Countries = refl
+tag_has_place Codes = refl
+
+-- tables have different tags
+pub tags_differ : (a b : Table) → tag_for a ≡ tag_for b → a ≡ b
+tags_differ Rows Rows is = refl
+tags_differ Rows Alternates is = absurd (omega (arith, is))
+tags_differ Rows Links is = absurd (omega (arith, is))
+tags_differ Rows Countries is = absurd (omega (arith, is))
+tags_differ Rows Codes is = absurd (omega (arith, is))
+tags_differ Alternates Rows is = absurd (omega (arith, is))
+tags_differ Alternates Alternates is = refl
+tags_differ Alternates Links is = absurd (omega (arith, is))
+tags_differ Alternates Countries is = absurd (omega (arith, is))
+tags_differ Alternates Codes is = absurd (omega (arith, is))
+tags_differ Links Rows is = absurd (omega (arith, is))
+tags_differ Links Alternates is = absurd (omega (arith, is))
+tags_differ Links Links is = refl
+tags_differ Links Countries is = absurd (omega (arith, is))
+tags_differ Links Codes is = absurd (omega (arith, is))
+tags_differ Countries Rows is = absurd (omega (arith, is))
+tags_differ Countries Alternates is = absurd (omega (arith, is))
+tags_differ Countries Links is = absurd (omega (arith, is))
+tags_differ Countries Countries is = refl
+tags_differ Countries Codes is = absurd (omega (arith, is))
+tags_differ Codes Rows is = absurd (omega (arith, is))
+tags_differ Codes Alternates is = absurd (omega (arith, is))
+tags_differ Codes Links is = absurd (omega (arith, is))
+tags_differ Codes Countries is = absurd (omega (arith, is))
+tags_differ Codes Codes is = refl
+
+-- The key has no place as its value.
+abbrev pub IsPlaceless : List ℕ → Type 0
+IsPlaceless key = has_place (tag_of key) ≡ false
+
+-- what is in a list of one, or in the list behind the first
+pub one_of : (P : List ℕ → Type 0) (x : List ℕ) (xs : List (List ℕ)) (y : List ℕ) → P x → ((z : List ℕ) → Contains xs z → P z) → Contains (x ∷ xs) y → P y
+one_of P x xs y first rest has = elim (contained x xs y has) [
+  | inl is ↦ subst P is first
+  | inr behind ↦ rest y behind
+]
+
+none_of : (P : List ℕ → Type 0) (y : List ℕ) → Contains [] y → P y
+none_of P y has = absurd (contained_none y has)
+
+division_placeless : (line : List ℕ) (k : Option ℕ) (key : List ℕ) → Contains (division_keys line k) key → IsPlaceless key
+unfolding division_key
+division_placeless line None key has = none_of IsPlaceless key has
+division_placeless line (Some k) key has = one_of IsPlaceless _ [] key refl (none_of IsPlaceless) has
+
+-- no other key of a line has the tag of one with a place
+pub more_placeless : (table : Table) (line key : List ℕ) → Contains (more_keys table line) key → IsPlaceless key
+unfolding text_key box_key path_key reverse_key
+more_placeless Rows line key has =
+    let rest = division_keys line (division_level line) in
+    let path = divided_key line in
+    let lying = lying_key line in
+    let ascii = ascii_key line in
+    one_of IsPlaceless (named_key line) (ascii ∷ lying ∷ path ∷ rest) key refl
+    (λ a. one_of IsPlaceless ascii (lying ∷ path ∷ rest) a refl
+    (λ b. one_of IsPlaceless lying (path ∷ rest) b refl
+    (λ c. one_of IsPlaceless path rest c refl (division_placeless line (division_level line))))) has
+more_placeless Alternates line key has = one_of IsPlaceless _ [] key refl (none_of IsPlaceless) has
+more_placeless Links line key has = one_of IsPlaceless _ [] key refl (none_of IsPlaceless) has
+more_placeless Countries line key has = none_of IsPlaceless key has
+more_placeless Codes line key has = none_of IsPlaceless key has
