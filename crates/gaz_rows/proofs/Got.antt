@@ -1,6 +1,6 @@
 -- What stands at the place of a key is the line of the table that has the key.
 use Rattle.std.proofs.Common.{◌≡◌, ◌<◌, ◌≤◌, ℕ, ◌-◌, ◌^◌, zero, suc, List, [], ◌∷◌, length, refl, sym, ◌∙◌, ap, arith, subst, inl, inr, true, false, Bool, Option, Some, None}
-use Rattle.std.specs.Prelude.{◌⊎◌, Contains, All, find, option_and_then, unwrap_or, if◌then◌else◌, IsSome, bytes_eq, slice_index, ◌&&◌, nat_lt, nat_le, is_some}
+use Rattle.std.specs.Prelude.{◌⊎◌, Contains, All, find, option_and_then, option_map, unwrap_or, if◌then◌else◌, IsSome, bytes_eq, slice_index, ◌&&◌, nat_lt, nat_le, is_some}
 use Rattle.std.specs.List.{list_any}
 use Rattle.std.specs.Ordering.{is_eq}
 use Rattle.std.proofs.lemmas.Bool.{leb-true}
@@ -97,7 +97,12 @@ module _ (slots : Slots) (gaz : Gazetteer) (value : List ℕ → Option ℕ) (by
   HasId line = is_eq (key_cmp (key_of Rows line) (id ∷ []))
 
   id_is : (line : List ℕ) → HasId line ≡ true → line_key slots Rows line ≡ place_key id
-  id_is line has = ap (λ key. place_key (slice_index key 0)) (same_key (key_of Rows line) (id ∷ []) has)
+  id_is line has = by (id_in (column 1 line)) (same_key (key_of Rows line) (id ∷ []) has)
+    where
+      -- (a line without an id has the key [], which is no id's)
+      by : (found : Option ℕ) → unwrap_or (option_map (λ n. n ∷ []) found) [] ≡ id ∷ [] → place_key (unwrap_or found 0) ≡ place_key id
+      by None is = absurd (cc)
+      by (Some n) is = ap (λ key. place_key (slice_index key 0)) is
 
   -- the row that has the id is the one at its place
   one_row : (line : List ℕ) → Contains gaz.rows line → HasId line ≡ true → option_and_then bytes (value (place_key id)) ≡ Some line

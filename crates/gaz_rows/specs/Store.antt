@@ -4,7 +4,8 @@ use Rattle.gaz_plain.specs.Gazetteer.{Gazetteer}
 use Rattle.gaz_num.specs.declared.words.Table.{Table}
 use Rattle.gaz_plain.specs.Gazetteer.{LineFault, malformed, full, line_with}
 use Rattle.gaz_page.specs.declared.tree_root.Root.{Root}
-use Rattle.gaz_page.specs.Pages.{PagesView, SamePages, Counts, RisesOnce}
+use Rattle.gaz_num.specs.Counts.{RisesOnce}
+use Rattle.gaz_page.specs.Pages.{PagesView, SamePages, Counts}
 use Rattle.gaz_rows.specs.declared.fault.AskFault.{AskFault}
 use Rattle.gaz_rows.specs.declared.fault.AskFault.TheVariants as ask
 use Rattle.gaz_rows.specs.declared.fault.StepFault.{StepFault}
