@@ -92,6 +92,7 @@ impl Tree {
         ensures damaged { IsTrue (P.view pages.old).is_told → (pairs : List Pair) → Stands (P.view pages.old) self.old pairs → PutDamage (P.view pages.old) self.old pairs result }
         ensures names { IsTrue (P.view pages.old).is_told → PutNamesOf (P.view pages.old) (P.view pages.new) self.old result }
         ensures left { OnErr result (self.new ≡ self.old) }
+        ensures low { self.old.height ≤ 6 → self.new.height ≤ 6 }
         ensures counts { self.old.height ≤ 6 → Counts 20 20 (P.view pages.old) (P.view pages.new) }
         ensures cause { HasPageCause (P.view pages.old) (P.view pages.new) result }
         ensures keeps { P.keeps pages.old pages.new }
@@ -129,6 +130,7 @@ impl Tree {
         ensures damaged { IsTrue (P.view pages.old).is_told → (pairs : List Pair) → Stands (P.view pages.old) self.old pairs → IfErr result NotDamaged }
         ensures names { IsTrue (P.view pages.old).is_told → NamesSinceOf (P.view pages.old).page (P.view pages.new).page self.old.height self.old.top result }
         ensures left { OnErr result (self.new ≡ self.old) }
+        ensures low { self.new.height ≤ self.old.height }
         ensures counts { self.old.height ≤ 6 → Counts 25 20 (P.view pages.old) (P.view pages.new) }
         ensures cause { HasPageCause (P.view pages.old) (P.view pages.new) result }
         ensures keeps { P.keeps pages.old pages.new }
