@@ -1,5 +1,5 @@
 //! A tree by its topmost page.
-ghost use Rattle.std.specs.Prelude.{◌≡◌, ◌≤◌, ℕ, List, IsTrue, IfErr, slice_index};
+ghost use Rattle.std.specs.Prelude.{◌≡◌, ◌≤◌, ◌+◌, ◌*◌, ℕ, List, IsTrue, IfErr, slice_index};
 ghost use Rattle.gaz_leaf.specs.Node.{Pair, key_of};
 ghost use Rattle.std.specs.Prelude.{false, ◌^◌, ◌<◌, [], Some, IfOk, OnOk, OnErr};
 ghost use Rattle.gaz_page.specs.Pages.{HasPageCause, Counts, SamePages, IsDamaged, damage};
@@ -93,7 +93,7 @@ impl Tree {
         ensures names { IsTrue (P.view pages.old).is_told → PutNamesOf (P.view pages.old) (P.view pages.new) self.old result }
         ensures left { OnErr result (self.new ≡ self.old) }
         ensures low { self.old.height ≤ 6 → self.new.height ≤ 6 }
-        ensures counts { self.old.height ≤ 6 → Counts 20 20 (P.view pages.old) (P.view pages.new) }
+        ensures counts { Counts (3 * self.old.height + 2) (3 * self.old.height + 2) (P.view pages.old) (P.view pages.new) }
         ensures cause { HasPageCause (P.view pages.old) (P.view pages.new) result }
         ensures keeps { P.keeps pages.old pages.new }
     {
@@ -131,7 +131,7 @@ impl Tree {
         ensures names { IsTrue (P.view pages.old).is_told → NamesSinceOf (P.view pages.old).page (P.view pages.new).page self.old.height self.old.top result }
         ensures left { OnErr result (self.new ≡ self.old) }
         ensures low { self.new.height ≤ self.old.height }
-        ensures counts { self.old.height ≤ 6 → Counts 25 20 (P.view pages.old) (P.view pages.new) }
+        ensures counts { Counts (4 * self.old.height + 1) (3 * self.old.height + 2) (P.view pages.old) (P.view pages.new) }
         ensures cause { HasPageCause (P.view pages.old) (P.view pages.new) result }
         ensures keeps { P.keeps pages.old pages.new }
     {

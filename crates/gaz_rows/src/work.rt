@@ -1,0 +1,99 @@
+//! The parts of a step: single calls on the tree and on records.
+ghost use Rattle.std.specs.Prelude.{◌≡◌, ◌≤◌, ◌+◌, ◌*◌, ℕ, List, [], ◌∷◌, false, length, map, IsTrue, IfOk, IfErr, OnOk, Contains};
+ghost use Rattle.gaz_page.specs.Pages.{Counts, Costs, HasPageCause, NotDamaged};
+ghost use Rattle.gaz_leaf.specs.Node.{Pair, key_of};
+ghost use Rattle.gaz_tree.specs.Pairs.{put, without};
+ghost use Rattle.gaz_rows.specs.Laid.{IsLaid, HasRoom};
+ghost use Rattle.gaz_rows.specs.Work.{put_zeros, without_all, GoesOn, ChangesFew, HasNewTree, HasNewHeap, TurnsPairs, IsSoundWith, HasAdded, HasDropped};
+
+use crate::RowStore;
+use gaz_heap::{drop_record, put as put_record};
+use gaz_page::{PageFault, Pages};
+
+impl<P: Pages> RowStore<P> {
+    /// Puts a key with its value into the tree.
+    pub(crate) fn put_key(&mut self, key: &[u8; 32], value: u64) -> Result<(), PageFault>
+        requires may_change { (P.view self.old.pages).is_read_only ≡ false }
+        ensures turns { OnOk result (IsTrue (P.view self.old.pages).is_told
+            → TurnsPairs 7 (put (record { key = key_of key.now; value = value })) (P.view self.old.pages) self.old.root (P.view self.new.pages) self.new.root) }
+        ensures damaged { IsTrue (P.view self.old.pages).is_told → IsSoundWith 7 1 (P.view self.old.pages) self.old.root result }
+        ensures root { HasNewTree self.old.root self.new.root }
+        ensures goes_on { GoesOn (P.view self.old.pages) (P.view self.new.pages) }
+        ensures few { self.old.root.height ≤ 6 → ChangesFew 20 (P.view self.old.pages) (P.view self.new.pages) self.old.root self.new.root }
+        ensures cause { HasPageCause (P.view self.old.pages) (P.view self.new.pages) result }
+        ensures keeps { P.keeps self.old.pages self.new.pages }
+    {
+        let mut tree = self.tree();
+        match tree.put(&mut self.pages, key, value) {
+            Ok(()) => {}
+            Err(fault) => return Err(fault),
+        }
+        self.root.top = tree.top;
+        self.root.height = tree.height;
+        Ok(())
+    }
+
+    /// Takes a key out of the tree.
+    pub(crate) fn remove_key(&mut self, key: &[u8; 32]) -> Result<(), PageFault>
+        requires may_change { (P.view self.old.pages).is_read_only ≡ false }
+        ensures turns { OnOk result (IsTrue (P.view self.old.pages).is_told
+            → TurnsPairs 0 (without (key_of key.now)) (P.view self.old.pages) self.old.root (P.view self.new.pages) self.new.root) }
+        ensures damaged { IsTrue (P.view self.old.pages).is_told → IsSoundWith 0 0 (P.view self.old.pages) self.old.root result }
+        ensures root { HasNewTree self.old.root self.new.root }
+        ensures goes_on { GoesOn (P.view self.old.pages) (P.view self.new.pages) }
+        ensures few { self.old.root.height ≤ 6 → ChangesFew 20 (P.view self.old.pages) (P.view self.new.pages) self.old.root self.new.root }
+        ensures cause { HasPageCause (P.view self.old.pages) (P.view self.new.pages) result }
+        ensures keeps { P.keeps self.old.pages self.new.pages }
+    {
+        let mut tree = self.tree();
+        match tree.remove(&mut self.pages, key) {
+            Ok(_) => {}
+            Err(fault) => return Err(fault),
+        }
+        self.root.top = tree.top;
+        self.root.height = tree.height;
+        Ok(())
+    }
+
+    /// Puts keys with the value 0 into the tree.
+    pub(crate) fn put_zeros(&mut self, keys: &[[u8; 32]]) -> Result<(), PageFault>
+        requires may_change { (P.view self.old.pages).is_read_only ≡ false }
+        ensures turns { OnOk result (IsTrue (P.view self.old.pages).is_told
+            → TurnsPairs (7 * length keys.now) (put_zeros keys.now) (P.view self.old.pages) self.old.root (P.view self.new.pages) self.new.root) }
+        ensures damaged { IsTrue (P.view self.old.pages).is_told → IsSoundWith (7 * length keys.now) (length keys.now) (P.view self.old.pages) self.old.root result }
+        ensures root { HasNewTree self.old.root self.new.root }
+        ensures goes_on { GoesOn (P.view self.old.pages) (P.view self.new.pages) }
+        ensures few { self.old.root.height ≤ 6 → ChangesFew (20 * length keys.now) (P.view self.old.pages) (P.view self.new.pages) self.old.root self.new.root }
+        ensures cause { HasPageCause (P.view self.old.pages) (P.view self.new.pages) result }
+        ensures keeps { P.keeps self.old.pages self.new.pages }
+    {
+        let Some((key, rest)) = keys.split_first() else {
+            return Ok(());
+        };
+        match self.put_key(key, 0) {
+            Ok(()) => self.put_zeros(rest),
+            Err(fault) => Err(fault),
+        }
+    }
+
+    /// Takes keys out of the tree.
+    pub(crate) fn remove_all(&mut self, keys: &[[u8; 32]]) -> Result<(), PageFault>
+        requires may_change { (P.view self.old.pages).is_read_only ≡ false }
+        ensures turns { OnOk result (IsTrue (P.view self.old.pages).is_told
+            → TurnsPairs 0 (without_all keys.now) (P.view self.old.pages) self.old.root (P.view self.new.pages) self.new.root) }
+        ensures damaged { IsTrue (P.view self.old.pages).is_told → IsSoundWith 0 0 (P.view self.old.pages) self.old.root result }
+        ensures root { HasNewTree self.old.root self.new.root }
+        ensures goes_on { GoesOn (P.view self.old.pages) (P.view self.new.pages) }
+        ensures few { self.old.root.height ≤ 6 → ChangesFew (20 * length keys.now) (P.view self.old.pages) (P.view self.new.pages) self.old.root self.new.root }
+        ensures cause { HasPageCause (P.view self.old.pages) (P.view self.new.pages) result }
+        ensures keeps { P.keeps self.old.pages self.new.pages }
+    {
+        let Some((key, rest)) = keys.split_first() else {
+            return Ok(());
+        };
+        match self.remove_key(key) {
+            Ok(()) => self.remove_all(rest),
+            Err(fault) => Err(fault),
+        }
+    }
+}
