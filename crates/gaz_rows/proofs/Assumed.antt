@@ -1,5 +1,5 @@
 -- (to be replaced by the files that prove them)
-use Rattle.gaz_rows.specs.Laid.{AfterRecordPut, AfterKept, AfterRecordDropped, AfterKeyPut, AfterKeyRemoved, AfterOrder, AreLaid, AreLeft}
+use Rattle.gaz_rows.specs.Laid.{AfterRecordPut, AfterKept, AfterRecordDropped, AfterKeyPut, AfterKeyRemoved, AfterOrder, AreLaid}
 
 pub after_record_put : AfterRecordPut
 after_record_put = ?
@@ -18,6 +18,3 @@ after_key_removed = ?
 
 pub are_laid : AreLaid
 are_laid = ?
-
-pub are_left : AreLeft
-are_left = ?
