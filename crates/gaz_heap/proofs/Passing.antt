@@ -151,7 +151,7 @@ short_names old current bytes (Err Failed) short d = tt
 short_names old current bytes (Err Memory) short d = tt
 short_names old current bytes (Err (Damaged page)) short d =
     elim d [
-      | inl bad ↦ inl (short, bad.0, bad.1)
+      | inl bad ↦ inl (short, bad.0, bad.1, bad.2)
       | inr met ↦ inr (take_meets old old 0 page (passing_none old) (omega arith) met)
     ]
 

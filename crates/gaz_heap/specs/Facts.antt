@@ -112,9 +112,9 @@ pub record Given (old now : PagesView) (free whole left : List ℕ) : Type 0 whe
 abbrev pub IsUsedUp : PagesView → List ℕ → Type 0
 IsUsedUp v free = (2 ^ 32 - 18 ≤ v.fresh) × (length free < 17)
 
--- the damage that a put names: the page for new records, where it isn't a record page in form, or 0 where pages are used up
+-- the damage that a put names: the page for new records, where there is one and it isn't a record page in form, or 0 where pages are used up
 abbrev pub PutFails : PagesView → ℕ → List ℕ → Result ℕ PageFault → Type 0
-PutFails old current free (Err (Damaged page)) = ((page ≡ current) × (is_record_page current (old.page current) ≡ false)) ⊎ ((page ≡ 0) × IsUsedUp old free)
+PutFails old current free (Err (Damaged page)) = ((page ≡ current) × (current ≢ 0) × (is_record_page current (old.page current) ≡ false)) ⊎ ((page ≡ 0) × IsUsedUp old free)
 PutFails old current free _ = Unit
 
 -- the same for a long record, whose pages are all taken
@@ -143,7 +143,7 @@ LongNames old _ = Unit
 -- The damage that a put names, whatever is supposed of the pages: the page for new records, where it isn't a record page in form and the record
 -- is one for it, or damage that a take meets.
 abbrev pub PutNames : PagesView → ℕ → List ℕ → Result ℕ PageFault → Type 0
-PutNames old current bytes (Err (Damaged page)) = ((length bytes ≤ 4076) × (page ≡ current) × (is_record_page current (old.page current) ≡ false)) ⊎ TakeMeets old page
+PutNames old current bytes (Err (Damaged page)) = ((length bytes ≤ 4076) × (page ≡ current) × (current ≢ 0) × (is_record_page current (old.page current) ≡ false)) ⊎ TakeMeets old page
 PutNames old current bytes _ = Unit
 
 -- each page of the place is one of its kind: a record page in form of which the slot is used, or an overflow page in form

@@ -68,9 +68,9 @@ abbrev pub TakeDamage : PagesView → Result ℕ PageFault → Type 0
 TakeDamage old (Err (Damaged page)) = damage old ≡ Some page
 TakeDamage old _ = Unit
 
--- Damage is answered only where the page for new records isn't a record page in form, or where a take meets it.
+-- Damage is answered only where there is a page for new records that isn't a record page in form, or where a take meets it.
 abbrev pub PutDamage : ℕ → PagesView → Result ℕ PageFault → Type 0
-PutDamage current old (Err (Damaged page)) = ((page ≡ current) × (is_record_page current (old.page current) ≡ false)) ⊎ (damage old ≡ Some page)
+PutDamage current old (Err (Damaged page)) = ((page ≡ current) × (current ≢ 0) × (is_record_page current (old.page current) ≡ false)) ⊎ (damage old ≡ Some page)
 PutDamage current old _ = Unit
 
 -- A piece of a long record stands in a page that was taken for it, and no other page changed.
