@@ -120,19 +120,19 @@ overflow_byte number page form =
     let h1 = and_parts size kind h2.0 in
     eqb-true (slice_index page 0) 4 h1.1
 
-tree_not_slots : (n : ℕ) (page : List ℕ) → HasForm tree n page → HasForm slots n page → ⊥
+pub tree_not_slots : (n : ℕ) (page : List ℕ) → HasForm tree n page → HasForm slots n page → ⊥
 tree_not_slots n page a b = omega (arith, tree_byte n page a, (form_says n page b).kind)
 
-tree_not_chain : (n place : ℕ) (page : List ℕ) → HasForm tree n page → HasForm (chain place) n page → ⊥
+pub tree_not_chain : (n place : ℕ) (page : List ℕ) → HasForm tree n page → HasForm (chain place) n page → ⊥
 tree_not_chain n place page a b = omega (arith, tree_byte n page a, overflow_byte n page b)
 
-tree_not_free : (n : ℕ) (page : List ℕ) → HasForm tree n page → HasForm free n page → ⊥
+pub tree_not_free : (n : ℕ) (page : List ℕ) → HasForm tree n page → HasForm free n page → ⊥
 tree_not_free n page a b = form_not_free a.0 n page a.1 b
 
-free_not_slots : (n : ℕ) (page : List ℕ) → HasForm free n page → HasForm slots n page → ⊥
+pub free_not_slots : (n : ℕ) (page : List ℕ) → HasForm free n page → HasForm slots n page → ⊥
 free_not_slots n page a b = let link = some_of (free_link n page) a in free_not_record n n link.0 page link.1 b
 
-free_not_chain : (n place : ℕ) (page : List ℕ) → HasForm free n page → HasForm (chain place) n page → ⊥
+pub free_not_chain : (n place : ℕ) (page : List ℕ) → HasForm free n page → HasForm (chain place) n page → ⊥
 free_not_chain n place page a b = let link = some_of (free_link n page) a in free_not_overflow n n link.0 page link.1 b
 
 -- both are chains of one place, or not both are chains
