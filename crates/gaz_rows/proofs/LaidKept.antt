@@ -1,17 +1,16 @@
 -- Laid pages with the places in another order, and with fewer pages kept for new records.
 use Rattle.std.proofs.Common.{◌≡◌, ◌≢◌, ◌<◌, ◌+◌, ◌*◌, ◌⊎◌, ℕ, true, List, ◌∷◌, refl, sym, ap, ◌∙◌, subst, arith, inl, inr}
-use Rattle.std.specs.Prelude.{IsTrue, Contains, nat_lt, not, ◌==◌, ◌&&◌}
-use Rattle.std.proofs.lemmas.Bool.{lt-ltb, ne_eqb}
+use Rattle.std.specs.Prelude.{IsTrue, Contains}
 use Rattle.gaz_page.specs.declared.tree_root.Root.{Root}
 use Rattle.gaz_page.specs.Pages.{PagesView}
 use Rattle.gaz_leaf.specs.Node.{Pair}
 use Rattle.gaz_slots.specs.RecordPage.{is_used, count_in, from_in, is_record_page}
-use Rattle.gaz_slots.proofs.Form.{form_says}
 use Rattle.gaz_heap.specs.Heap.{HasUsed}
 use Rattle.gaz_keys.proofs.Tags.{contained}
 use Rattle.gaz_rows.specs.Stands.{Use, tree, slots, chain, free, HasSlots, IsFor}
 use Rattle.gaz_rows.specs.Laid.{IsLaid, ends_of, AfterOrder, AfterKept}
 use Rattle.gaz_rows.proofs.LaidParts.{more_slots, more_for}
+use Rattle.gaz_rows.proofs.LaidSlots.{is_used_by, slot_small}
 use Rattle.gaz_rows.proofs.Members.{tail_is_in}
 
 pub after_order : AfterOrder
@@ -32,13 +31,6 @@ after_order v root pairs kept places others laid to from =
         no_more = λ n slot has used. to (n * 65536 + slot) (once.no_more n slot (more_slots kept kept others places keep from n has) used);
       };
     }
-
-is_used_by : (page : List ℕ) (slot : ℕ) → slot < count_in page → from_in page slot ≢ 0 → is_used page slot ≡ true
-is_used_by page slot below some = rw (lt-ltb slot (count_in page) below, ne_eqb (from_in page slot) 0 some) refl
-
--- slots of a record page have small numbers
-pub slot_small : (n slot : ℕ) (page : List ℕ) → is_record_page n page ≡ true → slot < count_in page → slot < 65535
-slot_small n slot page form below = let says = form_says n page form in omega (arith, says.slots, says.mark, below)
 
 -- A page needn't be kept where one of its slots is used, or where it is none.
 abbrev pub IsKeptBy : PagesView → List ℕ → ℕ → Type 0

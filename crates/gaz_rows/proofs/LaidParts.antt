@@ -20,7 +20,7 @@ use Rattle.gaz_heap.proofs.LongPuts.{each_at, each_from}
 use Rattle.gaz_heap.proofs.StoredPuts.{the_page, the_slot, no_chain}
 use Rattle.gaz_rows.specs.Stands.{Use, tree, slots, chain, free, HasSlots, IsFor, AreUsedOnce}
 use Rattle.gaz_rows.specs.Laid.{IsLaid, ends_of, tree_in}
-use Rattle.gaz_rows.proofs.LaidForms.{HasForm, OnePlace, same_use, tree_form, slot_form, chain_low, chain_form, chain_linked, linked_of, chain_of_tree, one_chain, among_of, contains_of}
+use Rattle.gaz_rows.proofs.LaidForms.{HasForm, OnePlace, same_use, tree_not_slots, tree_not_chain, tree_form, slot_form, chain_low, chain_form, chain_linked, linked_of, chain_of_tree, one_chain, among_of, contains_of}
 
 pub chain_page_form : (v : PagesView) (place : ℕ) (bytes : List ℕ) (n : ℕ) → IsTrue (is_chain place) → Holds v place bytes → Among (pages_of v.page place) n → HasForm (chain place) n (v.page n)
 chain_page_form v place bytes n is holds among =
@@ -85,6 +85,31 @@ module _ (v : PagesView) (root : Root) (pairs : List Pair) (kept places : List �
 
 -- ---- what laid pages give
 
+-- a page of a record is a record page or one of its chain
+pub place_form : (v : PagesView) (place : ℕ) (bytes : List ℕ) (n : ℕ) → Holds v place bytes → Among (pages_of v.page place) n
+    → (IsTrue (is_chain place) × HasForm (chain place) n (v.page n)) ⊎ ((is_chain place ≡ false) × (n ≡ page_of place) × HasForm slots n (v.page n))
+place_form v place bytes n holds among =
+    elim (cases_Bool (is_chain place)) [
+      | inl is ↦ inl (is, chain_page_form v place bytes n is holds among)
+      | inr slotted ↦ elim (subst (λ (l : List ℕ). Among l n) (pages_slot v.page place slotted) among) [
+        | inl here ↦ inr (slotted, here, subst (λ (k : ℕ). is_record_page k (v.page k) ≡ true) (sym here) (slot_form v place bytes slotted holds.at))
+        | inr nowhere ↦ absurd nowhere
+      ]
+    ]
+
+-- no page of a record is the tree's
+pub place_not_tree : (v : PagesView) (root : Root) (pairs : List Pair) (place : ℕ) (bytes : List ℕ) (n : ℕ) → IsTreeOf v (tree_in root) pairs → Holds v place bytes → Among (pages_of v.page place) n → OfTree v.page (tree_in root) n → ⊥
+place_not_tree v root pairs place bytes n s holds among reach =
+    let form = tree_form v (tree_in root) pairs n s reach in
+    elim (place_form v place bytes n holds among) [
+      | inl long ↦ tree_not_chain n place (v.page n) form long.1
+      | inr short ↦ tree_not_slots n (v.page n) form short.2
+    ]
+
+itself : (pages : ℕ → List ℕ) (level page : ℕ) → Reaches pages level page page
+itself pages zero page = refl
+itself pages (suc level) page = inl refl
+
 slot_below : (place : ℕ) → is_chain place ≡ false → slot_of place < 65535
 slot_below place slotted =
     elim (cases_eq (slot_of place) 65535) [
@@ -125,3 +150,17 @@ module _ (v : PagesView) (root : Root) (pairs : List Pair) (kept places : List �
 
   pub low_of : (n : ℕ) → HasSlots kept places n → InUse v n
   low_of n has = laid.used_once.in_range n slots has
+
+  pub heap_of : (current : ℕ) → (current ≡ 0) ⊎ Contains kept current → IsHeap v current laid.tree.chain.frees
+  heap_of current is = record {
+    least = let top = laid.tree.lies root.top (itself v.page (root.height - 1) root.top) in omega (arith, top.start, top.end);
+    chain = chain_of_tree v v.free laid.tree.chain.frees laid.tree.chain.first laid.tree.chain.chain;
+    page = elim is [
+      | inl none_ ↦ inl none_
+      | inr has ↦ elim (cases_eq current 0) [ inl none_ ↦ inl none_ | inr some ↦ inr (low_of current (inr (has, some))) ]
+    ];
+  }
+
+  pub records_of : (current : ℕ) → (current ≡ 0) ⊎ Contains kept current → IsForRecords v current
+  records_of current (inl none_) = inl none_
+  records_of current (inr has) = elim (cases_eq current 0) [ inl none_ ↦ inl none_ | inr some ↦ inr (laid.used_once.in_form current (inr (has, some))) ]
