@@ -2,3 +2,5 @@ pub mod Made
 pub mod Tags
 pub mod Fit
 pub mod Apart
+pub mod NameBytes
+pub mod KeysFit
