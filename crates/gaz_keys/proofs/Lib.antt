@@ -1,2 +1,6 @@
 pub mod Made
 pub mod Tags
+pub mod Fit
+pub mod Apart
+pub mod NameBytes
+pub mod KeysFit
