@@ -14,7 +14,7 @@ use Rattle.gaz_tree.specs.Stands.{Stands, OfTree, PutDamage, IsWithout}
 use Rattle.gaz_tree.proofs.Lists.{length-put_most}
 use Rattle.gaz_rows.specs.Laid.{IsLaid, LaidBy, HasRoom, tree_in, SameRecords}
 use Rattle.gaz_rows.specs.Work.{TurnsPairs, IsSoundWith, put_zeros, without_all}
-use Rattle.gaz_rows.proofs.Assumed.{after_key_put, after_key_removed}
+use Rattle.gaz_rows.proofs.LaidKeys.{after_key_put, after_key_removed}
 
 -- the tree of a root, by its fields
 pub tree_is : (tree : Tree) (root : Root) → tree.top ≡ root.top → tree.height ≡ root.height → tree_in root ≡ tree
