@@ -1,5 +1,5 @@
 -- A record of a slot was dropped: what becomes of all others.
-use Rattle.std.proofs.Common.{◌≡◌, ◌≢◌, ◌≤◌, ℕ, true, false, List, [], ◌∷◌, sym, ap, ◌∙◌, subst, arith, inl, inr, Some, None}
+use Rattle.std.proofs.Common.{IsTrue, ◌≡◌, ◌≢◌, ◌≤◌, ℕ, true, false, List, [], ◌∷◌, sym, ap, ◌∙◌, subst, arith, inl, inr, Some, None}
 use Rattle.std.proofs.lemmas.Bool.{cases_Bool, cases_eq, cases_lt, false_from_ne_true}
 use Rattle.gaz_page.specs.Free.{free_link}
 use Rattle.gaz_page.specs.Pages.{PagesView}
@@ -65,6 +65,9 @@ others_same number slot place old new free o other earlier holds differs =
           }
     ]
 
+not_chain : (place : ℕ) → is_chain place ≡ false → IsTrue (is_chain place) → ⊥
+not_chain place no_ chain = cc
+
 -- what is left where the page stays
 pub cleared_drops : (number slot place current : ℕ) (old new : PagesView) (free : List ℕ) → Clears number slot old new → page_of place ≡ number → slot_of place ≡ slot → is_chain place ≡ false → InUse old number → IsHeap old current free
     → (number ≢ current → HasUsed (new.page number)) → Drops old new current free place
@@ -98,6 +101,7 @@ cleared_drops number slot place current old new free c page at no_ use_ heap sta
           let is : n ≡ number = elim (subst (λ (l : List ℕ). Among l n) mine among) [ inl is ↦ is | inr never ↦ absurd never ] in
           let left = stays (λ same. away (is ∙ same)) in
           absurd (nothing _ _ (subst (λ (m : ℕ). (is_record_page m (new.page m) ≡ true → (k : ℕ) → slot_record (new.page m) k ≡ None)) is empty c.cleared.form left.0) (used_record (new.page number) left.0 left.1 left.2));
+      pieces = λ chain n among. absurd (not_chain place no_ chain);
       stays = λ n out. c.others n (λ is. out (subst (λ (l : List ℕ). Among l n) (sym mine) (inl is)));
       fresh = c.fresh;
       slots = λ other slotted differs. slots_same number slot place old new free other o (false_from_ne_true (is_chain other) slotted) differs;
@@ -145,6 +149,7 @@ given_drops number slot place current old new free c page at no_ use_ heap away 
       more = λ n among. inr among;
       given = λ n among. elim among [ inl is ↦ inr (subst (λ (l : List ℕ). Among l n) (sym mine) (inl is)) | inr later ↦ inl later ];
       emptied = λ n among away_ empty. inl (elim (subst (λ (l : List ℕ). Among l n) mine among) [ inl is ↦ is | inr never ↦ absurd never ]);
+      pieces = λ chain n among. absurd (not_chain place no_ chain);
       stays = λ n out. g.others n (λ is. out (subst (λ (l : List ℕ). Among l n) (sym mine) (inl is)));
       fresh = g.fresh;
       slots = λ other slotted differs. slots_same number slot place old new free other o (false_from_ne_true (is_chain other) slotted) differs;

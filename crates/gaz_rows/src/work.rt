@@ -96,4 +96,43 @@ impl<P: Pages> RowStore<P> {
             Err(fault) => Err(fault),
         }
     }
+
+    /// Puts a record, and answers its place.
+    pub(crate) fn add_record(&mut self, bytes: &[u8]) -> Result<u64, PageFault>
+        requires may_change { (P.view self.old.pages).is_read_only ≡ false }
+        requires short { length bytes.now ≤ 65535 }
+        ensures added { IfOk result (λ place. IsTrue (P.view self.old.pages).is_told → (pairs : List Pair) (places : List ℕ)
+            → IsLaid (P.view self.old.pages) self.old.root pairs (self.old.root.heap ∷ []) places
+            → HasAdded (P.view self.old.pages) (P.view self.new.pages) self.old.root self.new.root pairs places bytes.now place) }
+        ensures damaged { IsTrue (P.view self.old.pages).is_told → (pairs : List Pair) (places : List ℕ)
+            → IsLaid (P.view self.old.pages) self.old.root pairs (self.old.root.heap ∷ []) places → HasRoom 34 (P.view self.old.pages) → IfErr result NotDamaged }
+        ensures root { HasNewHeap self.old.root self.new.root }
+        ensures costs { Costs 17 36 (P.view self.old.pages) (P.view self.new.pages) result }
+        ensures keeps { P.keeps self.old.pages self.new.pages }
+    {
+        let mut current = self.root.heap;
+        match put_record(&mut self.pages, &mut current, bytes) {
+            Ok(place) => {
+                self.root.heap = current;
+                Ok(place)
+            }
+            Err(fault) => Err(fault),
+        }
+    }
+
+    /// Drops the record at a place.
+    pub(crate) fn drop_record(&mut self, place: u64) -> Result<(), PageFault>
+        requires may_change { (P.view self.old.pages).is_read_only ≡ false }
+        ensures dropped { OnOk result (IsTrue (P.view self.old.pages).is_told → (pairs : List Pair) (places : List ℕ)
+            → IsLaid (P.view self.old.pages) self.old.root pairs (self.old.root.heap ∷ []) places → Contains places place
+            → HasDropped (P.view self.old.pages) (P.view self.new.pages) self.new.root pairs places place) }
+        ensures damaged { IsTrue (P.view self.old.pages).is_told → (pairs : List Pair) (places : List ℕ)
+            → IsLaid (P.view self.old.pages) self.old.root pairs (self.old.root.heap ∷ []) places → Contains places place → IfErr result NotDamaged }
+        ensures root { self.new.root ≡ self.old.root }
+        ensures costs { Costs 17 18 (P.view self.old.pages) (P.view self.new.pages) result }
+        ensures keeps { P.keeps self.old.pages self.new.pages }
+    {
+        let mut current = self.root.heap;
+        drop_record(&mut self.pages, &mut current, place)
+    }
 }
