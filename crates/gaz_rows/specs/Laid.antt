@@ -50,12 +50,23 @@ pub record LaidWith (old new : PagesView) (root : Root) (pairs : List Pair) (now
   -- 17 pages fewer at most can be taken
   pub room : (n : ℕ) → HasRoom (n + 17) old → HasRoom n new
 
+-- A record is put. Another page is for new records then only where there was none, or one with a used slot.
 abbrev pub AfterRecordPut : Type 0
 AfterRecordPut =
     (old new : PagesView) (root : Root) (pairs : List Pair) (current now : ℕ) (kept places : List ℕ) (bytes : List ℕ) (place : ℕ)
     → (laid : IsLaid old root pairs kept places) → (current ≡ 0) ⊎ Contains kept current
+    → (now ≡ current) ⊎ ((current ≡ 0) ⊎ HasUsed (old.page current))
     → Puts old new current now laid.tree.chain.frees bytes place
     → LaidWith old new root pairs now kept places bytes place
+
+-- The same where no other page was kept: none but the one for new records is kept then.
+abbrev pub AfterRecordPutAlone : Type 0
+AfterRecordPutAlone =
+    (old new : PagesView) (root : Root) (pairs : List Pair) (current now : ℕ) (places : List ℕ) (bytes : List ℕ) (place : ℕ)
+    → (laid : IsLaid old root pairs (current ∷ []) places)
+    → (now ≡ current) ⊎ ((current ≡ 0) ⊎ HasUsed (old.page current))
+    → Puts old new current now laid.tree.chain.frees bytes place
+    → LaidWith old new root pairs now [] places bytes place
 
 -- A page that is kept for new records needn't be kept where one of its slots is used, where it is kept anyway, or where it is none.
 abbrev pub AfterKept : Type 0
