@@ -20,9 +20,9 @@ use Rattle.gaz_num.proofs.PassedLemmas.{passed}
 use Rattle.gaz_name.specs.Name.{name_key_of, first_bytes}
 use Rattle.gaz_keys.specs.Keys.{four, place_key, alternate_key, link_key, reverse_key, country_key, code_key, text_key, box_key, division_key, path_key}
 use Rattle.gaz_keys.specs.Parts.{tag_of, four_at, id_of, alternate_of, first_of, slot_of, source_of}
-use Rattle.gaz_keys.specs.Lines.{key_at, more_keys, keys_of, id_at, name_at, path_to, division_keys, division_level, named_key, ascii_key, lying_key, divided_key, IsKeyed}
+use Rattle.gaz_keys.specs.Lines.{key_at, more_keys, keys_of, id_at, name_at, path_to, division_keys, division_level, lying_key, divided_key, IsKeyed}
 use Rattle.gaz_keys.specs.Laws.{AreAlike, KeysTellTheirLine}
-use Rattle.gaz_keys.proofs.Tags.{contained_none, one_of}
+use Rattle.gaz_keys.proofs.Tags.{in_more_keys, contained_none, one_of}
 use Rattle.gaz_keys.proofs.Made.{take_front}
 use Rattle.gaz_keys.proofs.Fit.{first_size, id_small, no_comment}
 
@@ -208,15 +208,8 @@ divisions_tell slot line (Some level) key has = one_of (Tells Rows slot line) _ 
 -- So do its other keys.
 more_tell : (table : Table) (slot : ℕ) (line key : List ℕ) → Contains (more_keys table line) key → Tells table slot line key
 more_tell Rows slot line key has =
-    let Told = Tells Rows slot line in
-    let rest = division_keys line (division_level line) in
-    let path = divided_key line in
-    let lying = lying_key line in
-    let ascii = ascii_key line in
-    one_of Told (named_key line) (ascii ∷ lying ∷ path ∷ rest) key (row_text 2 0 slot line refl)
-    (λ a. one_of Told ascii (lying ∷ path ∷ rest) a (row_text 3 1 slot line refl)
-    (λ b. one_of Told lying (path ∷ rest) b (lying_tells slot line)
-    (λ c. one_of Told path rest c (divided_tells slot line) (divisions_tell slot line (division_level line))))) has
+    in_more_keys (Tells Rows slot line) line key (row_text 2 0 slot line refl) (row_text 3 1 slot line refl) (lying_tells slot line) (divided_tells slot line)
+    (λ other. divisions_tell slot line (division_level line) other) has
 more_tell Alternates slot line key has = one_of (Tells Alternates slot line) _ [] key (alternate_text slot line) (none_tells Alternates slot line) has
 more_tell Links slot line key has = one_of (Tells Links slot line) _ [] key (reverse_tells slot line) (none_tells Links slot line) has
 more_tell Countries slot line key has = none_tells Countries slot line key has

@@ -11,11 +11,11 @@ use Rattle.gaz_num.specs.declared.words.Table.TheVariants.{Rows, Alternates, Lin
 use Rattle.gaz_name.specs.Name.{first_bytes, name_key_of}
 use Rattle.gaz_parent.specs.Parent.{is_country_row, is_administrative, code_level, path_columns}
 use Rattle.gaz_keys.specs.Keys.{IsKey, four, place_key, alternate_key, link_key, reverse_key, country_key, code_key, text_key, box_key, division_key, path_key}
-use Rattle.gaz_keys.specs.Lines.{key_at, more_keys, id_at, name_at, band_at, east_at, path_to, division_keys, division_level, named_key, ascii_key, lying_key, divided_key, IsKeyed}
+use Rattle.gaz_keys.specs.Lines.{key_at, more_keys, id_at, name_at, band_at, east_at, path_to, division_keys, division_level, divided_key, IsKeyed}
 use Rattle.gaz_keys.specs.Laws.{KeysFit}
 use Rattle.gaz_keys.proofs.Fit.{AreBytes, none_fit, byte_fits, number_fits, append_fits, zeros_fit, first_fits, first_size, column_fits, line_fits, line_is_text}
 use Rattle.gaz_keys.proofs.NameBytes.{name_fits}
-use Rattle.gaz_keys.proofs.Tags.{one_of, contained_none}
+use Rattle.gaz_keys.proofs.Tags.{in_more_keys, one_of, contained_none}
 
 class_fits : (type : List ℕ) → class_in type < 256
 class_fits type = by (bytes_eq type (codes "ADM")) (is_empty type)
@@ -151,14 +151,8 @@ divisions_fit line (Some level) key fits small has = one_of IsKey _ [] key (divi
 pub more_fit : (table : Table) (line key : List ℕ) → IsKeyed table line → Contains (more_keys table line) key → IsKey key
 more_fit Rows line key is has =
     let fits = line_fits Rows line is in
-    let rest = division_keys line (division_level line) in
-    let path = divided_key line in
-    let lying = lying_key line in
-    let ascii = ascii_key line in
-    one_of IsKey (named_key line) (ascii ∷ lying ∷ path ∷ rest) key (name_key_fits Rows 2 0 (id_at 1 line) 0 line is (omega arith))
-    (λ a. one_of IsKey ascii (lying ∷ path ∷ rest) a (name_key_fits Rows 3 1 (id_at 1 line) 0 line is (omega arith))
-    (λ b. one_of IsKey lying (path ∷ rest) b (box_key_fits (band_at line) (east_at line) (id_at 1 line))
-    (λ c. one_of IsKey path rest c (path_key_fits line fits) (λ d. divisions_fit line (division_level line) d fits (level_small line))))) has
+    in_more_keys IsKey line key (name_key_fits Rows 2 0 (id_at 1 line) 0 line is (omega arith)) (name_key_fits Rows 3 1 (id_at 1 line) 0 line is (omega arith))
+    (box_key_fits (band_at line) (east_at line) (id_at 1 line)) (path_key_fits line fits) (λ other. divisions_fit line (division_level line) other fits (level_small line)) has
 more_fit Alternates line key is has = one_of IsKey _ [] key (name_key_fits Alternates 4 2 (id_at 2 line) (id_at 1 line) line is (omega arith)) none_is_key has
 more_fit Links line key is has = one_of IsKey _ [] key (reverse_key_fits (id_at 1 line) (id_at 2 line) (column 3 line)) none_is_key has
 more_fit Countries line key is has = none_is_key key has

@@ -4,3 +4,5 @@ pub mod Fit
 pub mod Apart
 pub mod NameBytes
 pub mod KeysFit
+pub mod Fronts
+pub mod RowKeys
