@@ -1,2 +1,4 @@
 pub mod Made
 pub mod Tags
+pub mod Fit
+pub mod Apart

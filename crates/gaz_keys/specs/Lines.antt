@@ -1,9 +1,11 @@
 -- The keys that a line has in the index.
-use Rattle.std.specs.Prelude.{ℕ, ◌*◌, ◌^◌, List, [], ◌∷◌, ◌++◌, pos, ◌+ℤ◌, nat_abs, Option, Some, None, if◌then◌else◌, unwrap_or}
+use Rattle.std.specs.Prelude.{◌≡◌, ℕ, ◌*◌, ◌^◌, List, [], ◌∷◌, ◌++◌, pos, ◌+ℤ◌, nat_abs, Option, Some, None, IsSome, if◌then◌else◌, unwrap_or}
 use Rattle.std.specs.List.{flat_map}
 use Rattle.gaz_num.specs.Numbers.{id_in, degrees_in}
 use Rattle.gaz_num.specs.Pieces.{column}
-use Rattle.gaz_num.specs.Check.{class_in}
+use Rattle.gaz_num.specs.Check.{class_in, reason_against, key_in}
+use Rattle.gaz_num.specs.declared.words.Kind.{Kind}
+use Rattle.gaz_num.specs.declared.words.Kind.TheVariants as kind
 use Rattle.gaz_num.specs.declared.words.Table.{Table}
 use Rattle.gaz_num.specs.declared.words.Table.TheVariants.{Rows, Alternates, Links, Countries, Codes}
 use Rattle.gaz_name.specs.Name.{name_key_of, first_bytes}
@@ -72,3 +74,20 @@ more_keys Alternates line = text_key (name_at 4 line) 2 (id_at 2 line) (id_at 1 
 more_keys Links line = reverse_key (id_at 1 line) (class_in (column 3 line)) (id_at 2 line) ∷ []
 more_keys Countries line = []
 more_keys Codes line = []
+
+-- all keys of a line
+abbrev pub keys_of : Table → ℕ → List ℕ → List (List ℕ)
+keys_of table slot line = key_at table slot line ∷ more_keys table line
+
+-- the kind of the lines that a table holds
+abbrev pub kind_of : Table → Kind
+kind_of Rows = kind.Row
+kind_of Alternates = kind.Alt
+kind_of Links = kind.Link
+kind_of Countries = kind.Country
+kind_of Codes = kind.Code
+
+-- A line that its check accepts, and that isn't a comment: it has a key in its table.
+pub record IsKeyed (table : Table) (line : List ℕ) : Type 0 where
+  pub accepted : reason_against (kind_of table) line ≡ None
+  pub keyed : IsSome (key_in (kind_of table) line)
