@@ -2,3 +2,4 @@ pub mod Made
 pub mod Tags
 pub mod Fit
 pub mod Apart
+pub mod Alike
