@@ -1,12 +1,12 @@
 -- Keys have 32 bytes.
-use Rattle.std.proofs.Common.{◌≡◌, ◌<◌, ◌≤◌, ℕ, zero, suc, ◌+◌, ◌-◌, Bool, true, false, List, [], ◌∷◌, ◌++◌, length, take, replicate, refl, subst, sym, ◌∙◌, ap, arith, inl, inr, Option, Some, None, length-append, length-take}
+use Rattle.std.proofs.Common.{◌≡◌, ◌<◌, ◌≤◌, ℕ, zero, suc, ◌+◌, ◌-◌, Bool, true, false, List, [], ◌∷◌, ◌++◌, length, take, replicate, refl, subst, arith, inl, inr, Some, None, length-append, length-take}
 use Rattle.std.proofs.lemmas.List.{length-replicate}
-use Rattle.std.specs.Prelude.{◌⊎◌, All, nat_lt, ◌/◌, ◌%◌, ◌^◌, unwrap_or, slice_get, ◌&&◌, is_some, IsSome, if◌then◌else◌, nat_le, ◌==◌, bytes_eq, codes}
+use Rattle.std.specs.Prelude.{All, nat_lt, ◌/◌, ◌%◌, ◌^◌, unwrap_or, slice_get, ◌&&◌, is_some, IsSome, if◌then◌else◌, nat_le, ◌==◌, bytes_eq, codes}
 use Rattle.std.specs.Str.{IsUtf8, is_utf8, encode_utf8_all, all_scalars}
 use Rattle.std.specs.Char.{encode_utf8, IsScalar}
 use Rattle.std.specs.List.{slice_split, onto_first}
 use Rattle.std.specs.Int.{w32, to_be_bytes}
-use Rattle.std.proofs.lemmas.List.Elements.{All-from_recursion, All-cons, All-append, All-take, All-replicate}
+use Rattle.std.proofs.lemmas.List.Elements.{All-cons, All-append, All-take, All-replicate}
 use Rattle.std.proofs.lemmas.Bool.{cases_lt}
 use Rattle.std.proofs.lemmas.Bool.Decides.{nat_tests}
 use Rattle.gaz_num.proofs.CalendarLemmas.{and_left, and_right}
