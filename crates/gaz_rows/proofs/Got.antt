@@ -50,6 +50,13 @@ IsKeyAlone slots table asked key = (line : List ℕ) → IsLine (kind_in table) 
 abbrev pub has_key : Table → List ℕ → List ℕ → Bool
 has_key table asked line = is_eq (key_cmp (key_of table line) asked)
 
+-- A line of the table that has the key stands at the place.
+pub record IsLineAt (slots : Slots) (gaz : Gazetteer) (pages : ℕ → List ℕ) (table : Table) (key : List ℕ) (place : ℕ) : Type 0 where
+  pub line : List ℕ
+  pub there : Contains (lines_in gaz table) line
+  pub is : line_key slots table line ≡ key
+  pub stands : record_at pages place ≡ Some line
+
 never : false ≡ true → ⊥
 never is = cc
 
@@ -133,9 +140,19 @@ module _ (waiting : List (List ℕ)) (gaz : Gazetteer) (pages : ℕ → List ℕ
         found_alone stands.slots gaz (value_in waiting stands.pairs) (record_at pages) stands.indexed table each asked key is_for alone (value_in waiting stands.pairs key) refl
         ∙ ap (option_and_then (record_at pages)) (value_is key has)
 
-    -- Where the tree has a place for the key, a record stands there.
-    pub record_there : (place : ℕ) → lookup (number_of key) stands.pairs ≡ Some place → IsSome (record_at pages place)
-    record_there place is =
+    -- Where the tree has a place for the key, a line of the table stands there.
+    pub line_at_key : (place : ℕ) → lookup (number_of key) stands.pairs ≡ Some place → IsLineAt stands.slots gaz pages table key place
+    line_at_key place is =
         let here : value_in waiting stands.pairs key ≡ Some place = value_is key has ∙ is in
+        let that = that_line stands.slots gaz (value_in waiting stands.pairs) (record_at pages) stands.indexed table each asked key is_for place here in
         let there = stands_there stands.slots gaz (value_in waiting stands.pairs) (record_at pages) stands.indexed table each asked key is_for place here in
-        ap is_some (sym (ap (option_and_then (record_at pages)) here) ∙ there)
+        record {
+          line = that.line;
+          there = that.there;
+          is = that.is;
+          stands = sym (ap (option_and_then (record_at pages)) here) ∙ there;
+        }
+
+    -- so a record does
+    pub record_there : (place : ℕ) → lookup (number_of key) stands.pairs ≡ Some place → IsSome (record_at pages place)
+    record_there place is = ap is_some (line_at_key place is).stands
