@@ -16,6 +16,7 @@ use Rattle.gaz_num.specs.declared.words.Kind.TheVariants as kind
 use Rattle.gaz_num.specs.declared.words.Reason.TheVariants as reason
 use Rattle.gaz_num.specs.declared.words.Table.{Table}
 use Rattle.gaz_num.specs.declared.words.Table.TheVariants.{Rows, Alternates, Links, Countries, Codes}
+use Rattle.gaz_num.proofs.PassedLemmas.{passed}
 use Rattle.gaz_name.specs.Name.{name_key_of, first_bytes}
 use Rattle.gaz_keys.specs.Keys.{four, place_key, alternate_key, link_key, reverse_key, country_key, code_key, text_key, box_key, division_key, path_key}
 use Rattle.gaz_keys.specs.Parts.{tag_of, four_at, id_of, alternate_of, first_of, slot_of, source_of}
@@ -23,7 +24,7 @@ use Rattle.gaz_keys.specs.Lines.{key_at, more_keys, keys_of, id_at, name_at, pat
 use Rattle.gaz_keys.specs.Laws.{AreAlike, KeysTellTheirLine}
 use Rattle.gaz_keys.proofs.Tags.{contained_none, one_of}
 use Rattle.gaz_keys.proofs.Made.{take_front}
-use Rattle.gaz_keys.proofs.Fit.{first_size, id_small, passed, no_comment}
+use Rattle.gaz_keys.proofs.Fit.{first_size, id_small, no_comment}
 
 -- what stands behind a text of so many bytes
 drop_past : (size n : ℕ) (first rest : List ℕ) → length first ≡ size → drop (size + n) (first ++ rest) ≡ drop n rest

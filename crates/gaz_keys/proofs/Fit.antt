@@ -1,29 +1,27 @@
--- Keys have 32 bytes.
+-- Lines, their columns and pieces of them have bytes.
 use Rattle.std.proofs.Common.{◌≡◌, ◌<◌, ◌≤◌, ℕ, zero, suc, ◌+◌, ◌-◌, Bool, true, false, List, [], ◌∷◌, ◌++◌, length, take, replicate, refl, subst, arith, inl, inr, Some, None, length-append, length-take}
 use Rattle.std.proofs.lemmas.List.{length-replicate}
-use Rattle.std.specs.Prelude.{All, nat_lt, ◌/◌, ◌%◌, ◌^◌, unwrap_or, option_and_then, slice_get, ◌&&◌, is_some, IsSome, if◌then◌else◌, nat_le, ◌==◌, bytes_eq, codes}
+use Rattle.std.specs.Prelude.{All, nat_lt, ◌/◌, ◌%◌, ◌^◌, unwrap_or, option_and_then, slice_get, ◌&&◌, is_some, IsSome, if◌then◌else◌, nat_le, ◌==◌}
 use Rattle.std.specs.Str.{IsUtf8, is_utf8, encode_utf8_all, all_scalars}
 use Rattle.std.specs.Char.{encode_utf8, IsScalar}
-use Rattle.std.specs.List.{slice_split, onto_first}
-use Rattle.std.specs.Int.{w32, to_be_bytes}
+use Rattle.std.specs.List.{slice_split, onto_first, list_all}
+use Rattle.std.specs.Int.{bytes_high_first, byte_at}
 use Rattle.std.proofs.lemmas.List.Elements.{All-cons, All-append, All-take, All-replicate}
-use Rattle.std.proofs.lemmas.Bool.{cases_lt, leb-true}
+use Rattle.std.proofs.lemmas.Bool.{cases_lt, leb-true, and_from}
 use Rattle.std.proofs.lemmas.Bool.Decides.{nat_tests}
 use Rattle.gaz_num.proofs.CalendarLemmas.{and_left, and_right}
 use Rattle.std.proofs.lemmas.Str.{IsUtf8-from_is_utf8}
 use Rattle.std.specs.Str.Parse.{digits_value}
 use Rattle.gaz_num.specs.Numbers.{some_if, is_digits}
 use Rattle.gaz_num.specs.Pieces.{fields, column}
-use Rattle.gaz_num.specs.Check.{line_limit, is_empty, first_failing, tests, tests_of_text, is_comment, reason_against, key_in, class_in}
+use Rattle.gaz_num.specs.Check.{line_limit, first_failing, tests, tests_of_text, is_comment, reason_against, key_in}
 use Rattle.gaz_num.specs.declared.words.Kind.{Kind}
 use Rattle.gaz_num.specs.declared.words.Kind.TheVariants as kind
-use Rattle.gaz_num.specs.declared.words.Reason.{Reason}
 use Rattle.gaz_num.specs.declared.words.Reason.TheVariants as reason
 use Rattle.gaz_num.specs.declared.words.Table.{Table}
-use Rattle.gaz_num.specs.declared.words.Table.TheVariants.{Rows, Alternates, Links, Countries, Codes}
 use Rattle.gaz_name.specs.Name.{first_bytes}
-use Rattle.gaz_keys.specs.Keys.{IsKey, place_key, alternate_key, link_key, country_key, code_key}
-use Rattle.gaz_keys.specs.Lines.{key_at, id_at, kind_of, IsKeyed}
+use Rattle.gaz_num.proofs.PassedLemmas.{passed}
+use Rattle.gaz_keys.specs.Lines.{id_at, kind_of, IsKeyed}
 
 -- an id has four bytes
 pub id_small : (n : ℕ) (line : List ℕ) → id_at n line < 2 ^ 32
@@ -46,7 +44,7 @@ id_small n line = by (is_digits 10 text && nat_le value (2 ^ 32 - 1)) refl
 abbrev pub AreBytes : List ℕ → Type 0
 AreBytes bytes = All (λ byte. byte < 256) bytes
 
-none_fit : AreBytes []
+pub none_fit : AreBytes []
 none_fit k d below = absurd (omega (arith, below))
 
 pub byte_fits : (a : ℕ) (rest : List ℕ) → a < 256 → AreBytes rest → AreBytes (a ∷ rest)
@@ -64,8 +62,14 @@ three_fit a b c x y z = byte_fits a (b ∷ c ∷ []) x (two_fit b c y z)
 all_four_fit : (a b c d : ℕ) → a < 256 → b < 256 → c < 256 → d < 256 → AreBytes (a ∷ b ∷ c ∷ d ∷ [])
 all_four_fit a b c d x y z w = byte_fits a (b ∷ c ∷ d ∷ []) x (three_fit b c d y z w)
 
-pub four_fit : (n : ℕ) → AreBytes (to_be_bytes w32 n)
-four_fit n = all_four_fit (n / 256 ^ 3 % 256) (n / 256 ^ 2 % 256) (n / 256 ^ 1 % 256) (n % 256) (omega arith) (omega arith) (omega arith) (omega arith)
+-- a number in so many bytes
+pub number_fits : (size n : ℕ) → AreBytes (bytes_high_first size n)
+number_fits zero n = none_fit
+number_fits (suc k) n = byte_fits (byte_at k n) (bytes_high_first k n) (one k) (number_fits k n)
+  where
+    one : (k : ℕ) → byte_at k n < 256
+    one zero = omega arith
+    one (suc k) = omega arith
 
 char_cases : (c : ℕ) → IsScalar c → c < 1114112
 char_cases c is = by (nat_lt c 55296) refl is
@@ -93,17 +97,31 @@ char_fits c below = elim (cases_lt c 128) [
     past : (n : ℕ) → n ≤ c → nat_lt c n ≡ false
     past n more = grind (arith, nat_tests)
 
+-- a number that UTF-8 can write
+abbrev pub is_char : ℕ → Bool
+is_char c = nat_lt c 1114112
+
+abbrev pub are_chars : List ℕ → Bool
+are_chars = list_all is_char
+
 -- whether it is the code of a character
 abbrev is_scalar : ℕ → Bool
 is_scalar c = if nat_lt c 55296 then true else (nat_le 57344 c && nat_lt c 1114112)
 
-chars_fit : (cs : List ℕ) → all_scalars cs ≡ true → AreBytes (encode_utf8_all cs)
-chars_fit [] is = none_fit
-chars_fit (c ∷ cs) is =
-    All-append (λ byte. byte < 256) (encode_utf8 c) (encode_utf8_all cs) (char_fits c (char_cases c (and_left (is_scalar c) (all_scalars cs) is))) (chars_fit cs (and_right (is_scalar c) (all_scalars cs) is))
+pub scalars_are : (cs : List ℕ) → all_scalars cs ≡ true → are_chars cs ≡ true
+scalars_are [] is = refl
+scalars_are (c ∷ cs) is =
+    let below = char_cases c (and_left (is_scalar c) (all_scalars cs) is) in
+    and_from (is_char c) (are_chars cs) (grind (arith, nat_tests, below)) (scalars_are cs (and_right (is_scalar c) (all_scalars cs) is))
+
+pub chars_fit : (cs : List ℕ) → are_chars cs ≡ true → AreBytes (encode_utf8_all cs)
+chars_fit [] are = none_fit
+chars_fit (c ∷ cs) are =
+    let one = and_left (is_char c) (are_chars cs) are in
+    All-append (λ byte. byte < 256) (encode_utf8 c) (encode_utf8_all cs) (char_fits c (grind (arith, nat_tests, one))) (chars_fit cs (and_right (is_char c) (are_chars cs) are))
 
 pub text_fits : (bytes : List ℕ) → IsUtf8 bytes → AreBytes bytes
-text_fits bytes text = subst AreBytes text.1.1 (chars_fit text.0 text.1.0)
+text_fits bytes text = subst AreBytes text.1.1 (chars_fit text.0 (scalars_are text.0 text.1.0))
 
 -- pieces have the elements of the whole
 pub first_fits : (size : ℕ) (text : List ℕ) → AreBytes text → AreBytes (first_bytes size text)
@@ -136,11 +154,7 @@ get_fits (piece ∷ pieces) (suc n) all = get_fits pieces n (λ k d within. all 
 pub column_fits : (n : ℕ) (line : List ℕ) → AreBytes line → AreBytes (column n line)
 column_fits n line fits = get_fits (fields line) (n - 1) (pieces_fit (λ byte. byte == 9) line fits)
 
--- a test that passed, and those behind it
-pub passed : (why : Reason) (b : Bool) (rest : List (Reason × Bool)) → first_failing ((why, b) ∷ rest) ≡ None → (b ≡ true) × (first_failing rest ≡ None)
-passed why true rest is = (refl, is)
-passed why false rest is = absurd (cc)
-
+-- a line with a key is no comment
 pub no_comment : (kind : Kind) (line : List ℕ) → IsSome (key_in kind line) → is_comment kind line ≡ false
 no_comment kind.Row line keyed = refl
 no_comment kind.RowDelete line keyed = refl
@@ -154,66 +168,21 @@ no_comment kind.Country line keyed = by (is_comment kind.Country line) refl keye
     by false is keyed = is
 no_comment kind.Code line keyed = refl
 
--- a line has bytes
-pub line_fits : (table : Table) (line : List ℕ) → IsKeyed table line → AreBytes line
+-- a line is UTF-8
+pub line_is_text : (table : Table) (line : List ℕ) → IsKeyed table line → IsUtf8 line
 unfolding reason_against
-line_fits table line is =
+line_is_text table line is =
     let kind = kind_of table in
     let behind = passed reason.Length (nat_le (length line) line_limit) (tests_of_text kind line) is.accepted in
     let all : first_failing ((reason.Utf8, is_utf8 line) ∷ tests kind line) ≡ None = rw (no_comment kind line is.keyed) at behind.1 in
-    text_fits line (IsUtf8-from_is_utf8 line (passed reason.Utf8 (is_utf8 line) (tests kind line) all).0)
+    IsUtf8-from_is_utf8 line (passed reason.Utf8 (is_utf8 line) (tests kind line) all).0
 
-append_fits : (xs ys : List ℕ) → AreBytes xs → AreBytes ys → AreBytes (xs ++ ys)
+-- so it has bytes
+pub line_fits : (table : Table) (line : List ℕ) → IsKeyed table line → AreBytes line
+line_fits table line is = text_fits line (line_is_text table line is)
+
+pub append_fits : (xs ys : List ℕ) → AreBytes xs → AreBytes ys → AreBytes (xs ++ ys)
 append_fits = All-append (λ byte. byte < 256)
 
-zeros_fit : (n : ℕ) → AreBytes (replicate n 0)
+pub zeros_fit : (n : ℕ) → AreBytes (replicate n 0)
 zeros_fit n = All-replicate (λ byte. byte < 256) n 0 (omega arith)
-
-class_fits : (type : List ℕ) → class_in type < 256
-class_fits type = by (bytes_eq type (codes "ADM")) (is_empty type)
-  where
-    by : (adm none : Bool) → (if adm then 0 else if none then 1 else 2) < 256
-    by true none = omega arith
-    by false true = omega arith
-    by false false = omega arith
-
-pub place_key_fits : (id : ℕ) → IsKey (place_key id)
-unfolding place_key
-place_key_fits id = record {
-  size = refl;
-  bytes = byte_fits 1 (to_be_bytes w32 id ++ replicate 27 0) (omega arith) (append_fits (to_be_bytes w32 id) (replicate 27 0) (four_fit id) (zeros_fit 27));
-}
-
--- the key by which a line stands at its place has 32 bytes
-pub key_fits : (table : Table) (slot : ℕ) (line : List ℕ) → IsKeyed table line → IsKey (key_at table slot line)
-unfolding alternate_key link_key country_key code_key
-key_fits Rows slot line is = place_key_fits (id_at 1 line)
-key_fits Alternates slot line is = record {
-  size = refl;
-  bytes = byte_fits 2 (to_be_bytes w32 (id_at 1 line) ++ replicate 27 0) (omega arith) (append_fits (to_be_bytes w32 (id_at 1 line)) (replicate 27 0) (four_fit (id_at 1 line)) (zeros_fit 27));
-}
-key_fits Links slot line is =
-    let class = class_in (column 3 line) in
-    let parent = to_be_bytes w32 (id_at 1 line) in
-    let child = to_be_bytes w32 (id_at 2 line) in
-    record {
-      size = refl;
-      bytes = byte_fits 3 (child ++ (class ∷ parent ++ replicate 22 0)) (omega arith) (append_fits child (class ∷ parent ++ replicate 22 0) (four_fit (id_at 2 line))
-          (byte_fits class (parent ++ replicate 22 0) (class_fits (column 3 line)) (append_fits parent (replicate 22 0) (four_fit (id_at 1 line)) (zeros_fit 22))));
-    }
-key_fits Countries slot line is =
-    let first = first_bytes 4 (column 1 line) in
-    let size = first_size 4 (column 1 line) in
-    record {
-      size = omega (arith, size, length-append first (replicate 27 0), length-replicate {A = ℕ} 27 0);
-      bytes = byte_fits 5 (first ++ replicate 27 0) (omega arith) (append_fits first (replicate 27 0) (first_fits 4 (column 1 line) (column_fits 1 line (line_fits Countries line is))) (zeros_fit 27));
-    }
-key_fits Codes slot line is =
-    let first = first_bytes 23 (column 1 line) in
-    let size = first_size 23 (column 1 line) in
-    let own = to_be_bytes w32 slot in
-    record {
-      size = omega (arith, size, length-append (first ++ replicate 4 0) own, length-append first (replicate 4 0), length-replicate {A = ℕ} 4 0);
-      bytes = byte_fits 6 (first ++ replicate 4 0 ++ own) (omega arith) (append_fits (first ++ replicate 4 0) own
-          (append_fits first (replicate 4 0) (first_fits 23 (column 1 line) (column_fits 1 line (line_fits Codes line is))) (zeros_fit 4)) (four_fit slot));
-    }

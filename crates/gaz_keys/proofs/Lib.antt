@@ -3,3 +3,5 @@ pub mod Tags
 pub mod Fit
 pub mod Apart
 pub mod Alike
+pub mod NameBytes
+pub mod KeysFit

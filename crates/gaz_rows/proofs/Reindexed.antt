@@ -11,7 +11,7 @@ use Rattle.gaz_keys.specs.Lines.{more_keys}
 use Rattle.gaz_keys.proofs.Tags.{contained, contained_none}
 use Rattle.gaz_keys.proofs.Alike.{one_slot}
 use Rattle.gaz_rows.specs.Index.{Slots, line_key, line_keys, IsKeyOf, IsIndexed, SlotsDiffer}
-use Rattle.gaz_rows.specs.Steps.{keys_by, more_by, IsOne, AreReplaced, SameSlots, KeysTell, KeysFit, KeysStepped, RecordsStepped}
+use Rattle.gaz_rows.specs.Steps.{keys_by, more_by, IsOne, AreReplaced, SameSlots, KeysTell, LineKeysFit, KeysStepped, RecordsStepped}
 use Rattle.gaz_rows.proofs.Members.{head_is_in, tail_is_in}
 use Rattle.gaz_rows.proofs.Keyed.{some_inj}
 
@@ -70,7 +70,7 @@ is_placed value bytes key line is = by (value key) refl
     by (Some place) some = record { place = place; at = some; stands = sym (ap (option_and_then bytes) some) ∙ is }
 
 module _ (slots : Slots) (gaz next : Gazetteer) (table : Table) (old new : Option (List ℕ)) (place : ℕ) (value value_now : List ℕ → Option ℕ) (bytes bytes_now : ℕ → Option (List ℕ)) where
-  module _ (held : IsIndexed slots gaz value bytes) (replaced : AreReplaced gaz next table old new) (keys : KeysStepped slots table old new place value value_now) (records : RecordsStepped slots gaz table old new place value bytes bytes_now) (tell : KeysTell slots gaz) (tell_now : KeysTell slots next) (fit_now : KeysFit slots next) (differ : SlotsDiffer slots next) where
+  module _ (held : IsIndexed slots gaz value bytes) (replaced : AreReplaced gaz next table old new) (keys : KeysStepped slots table old new place value value_now) (records : RecordsStepped slots gaz table old new place value bytes bytes_now) (tell : KeysTell slots gaz) (tell_now : KeysTell slots next) (fit_now : LineKeysFit slots next) (differ : SlotsDiffer slots next) where
     -- the keys of another line than the old one aren't its keys
     not_old : (other : Table) (line key : List ℕ) → Contains (lines_in gaz other) line → (IsOne table old other line → ⊥) → Contains (line_keys slots other line) key → Contains (keys_by slots table old) key → ⊥
     not_old other line key there isnt among has =

@@ -50,8 +50,8 @@ KeysTell slots gaz = (table other : Table) (line another key : List ℕ) → Con
     → Contains (line_keys slots table line) key → Contains (line_keys slots other another) key → (table ≡ other) × (line ≡ another)
 
 -- The keys of lines have 32 bytes.
-abbrev pub KeysFit : Slots → Gazetteer → Type 0
-KeysFit slots gaz = (table : Table) (line key : List ℕ) → Contains (lines_in gaz table) line → Contains (line_keys slots table line) key → IsKey key
+abbrev pub LineKeysFit : Slots → Gazetteer → Type 0
+LineKeysFit slots gaz = (table : Table) (line key : List ℕ) → Contains (lines_in gaz table) line → Contains (line_keys slots table line) key → IsKey key
 
 -- The values of keys once the keys of the old line have gone and those of the new one have come. `place` is where the new line stands.
 pub record KeysStepped (slots : Slots) (table : Table) (old new : Option (List ℕ)) (place : ℕ) (value value_now : List ℕ → Option ℕ) : Type 0 where
