@@ -58,7 +58,7 @@ module _ {X : Type 0} (p : X → Bool) where
 -- ---- the lines of a table
 
 -- whether a line has a key of the table
-abbrev has_key : Table → List ℕ → List ℕ → Bool
+abbrev pub has_key : Table → List ℕ → List ℕ → Bool
 has_key table key line = is_eq (key_cmp (key_of table line) key)
 
 -- a line is found by its key

@@ -1,16 +1,16 @@
 -- What a step does to the index: to the values of keys and the bytes at places, and to the pairs of the tree.
-use Rattle.std.specs.Prelude.{◌≡◌, ◌⊎◌, ℕ, List, [], ◌∷◌, filter, not, bytes_eq, Option, Some, None, if◌then◌else◌, option_and_then, Contains}
-use Rattle.std.specs.List.{list_any}
+use Rattle.std.specs.Prelude.{◌≡◌, ◌⊎◌, ℕ, List, [], ◌∷◌, Option, Some, None, if◌then◌else◌, option_and_then, Contains}
 use Rattle.gaz_num.specs.declared.words.Kind.{Kind}
 use Rattle.gaz_num.specs.declared.words.Table.{Table}
 use Rattle.gaz_num.specs.Pieces.{column}
 use Rattle.gaz_plain.specs.Gazetteer.{Gazetteer, is_delete, lines_in}
 use Rattle.gaz_leaf.specs.Node.{Pair, key_of}
-use Rattle.gaz_tree.specs.Pairs.{lookup, put, without}
+use Rattle.gaz_tree.specs.Pairs.{lookup, put}
 use Rattle.gaz_keys.specs.Keys.{IsKey}
 use Rattle.gaz_keys.specs.Lines.{more_keys}
 use Rattle.gaz_rows.specs.Index.{Slots, line_key, line_keys}
 use Rattle.gaz_rows.specs.Laid.{all_but}
+use Rattle.gaz_rows.specs.Work.{put_zeros, without_all, missing_in}
 
 -- the line that a line of a kind puts, and none where it only takes out
 abbrev pub line_put : Kind → List ℕ → Option (List ℕ)
@@ -71,31 +71,37 @@ pub record RecordsStepped (slots : Slots) (gaz : Gazetteer) (table : Table) (old
 abbrev pub pair_at : List ℕ → ℕ → Pair
 pair_at key value = record { key = key_of key; value = value }
 
--- the pairs with each of these keys put, one after the other, with the value 0
-abbrev pub put_zeros : List (List ℕ) → List Pair → List Pair
-put_zeros [] pairs = pairs
-put_zeros (key ∷ keys) pairs = put_zeros keys (put (pair_at key 0) pairs)
+-- The pairs after a step. Where it puts no line, all keys of the old one are taken out. Else the other keys that only the old line has are
+-- taken out, the key with the place is put, and the other keys that only the new line has are put.
+abbrev pub pairs_after : Slots → Table → Option (List ℕ) → Option (List ℕ) → ℕ → List Pair → List Pair
+pairs_after slots table old None place pairs = without_all (keys_by slots table old) pairs
+pairs_after slots table old (Some line) place pairs =
+    put_zeros (missing_in (more_by table old) (more_keys table line))
+    (put (pair_at (line_key slots table line) place)
+    (without_all (missing_in (more_keys table line) (more_by table old)) pairs))
 
--- the pairs with each of these keys taken out, one after the other
-abbrev pub without_all : List (List ℕ) → List Pair → List Pair
-without_all [] pairs = pairs
-without_all (key ∷ keys) pairs = without_all keys (without (key_of key) pairs)
-
--- the keys of the second list that aren't in the first
-abbrev pub missing_in : List (List ℕ) → List (List ℕ) → List (List ℕ)
-missing_in others keys = filter (λ key. not (list_any (bytes_eq key) others)) keys
-
--- the pairs with a key at this place, or without it where there is none
-abbrev pub placed : List ℕ → Option ℕ → List Pair → List Pair
-placed key None pairs = without (key_of key) pairs
-placed key (Some place) pairs = put (pair_at key place) pairs
-
--- The pairs after a step: the other keys of the old line that the new one hasn't are taken out, the key with the place is put or taken out,
--- and the other keys of the new line that the old one hadn't are put.
-abbrev pub pairs_after : List ℕ → Option ℕ → List (List ℕ) → List (List ℕ) → List Pair → List Pair
-pairs_after key place old new pairs = put_zeros (missing_in old new) (placed key place (without_all (missing_in new old) pairs))
+-- where a line stands, if there is one
+abbrev pub place_by : Slots → Table → List Pair → Option (List ℕ) → Option ℕ
+place_by slots table pairs one = option_and_then (λ line. lookup (key_of (line_key slots table line)) pairs) one
 
 -- the places but this one, if there is one
 abbrev pub but_old : Option ℕ → List ℕ → List ℕ
 but_old None places = places
 but_old (Some place) places = all_but place places
+
+-- the places and that of a new line, if there is one
+abbrev pub with_new : Option (List ℕ) → ℕ → List ℕ → List ℕ
+with_new None place places = places
+with_new (Some line) place places = place ∷ places
+
+-- What the records of a step leave, where lines stood at these places beside the old one: the new line at its place, which is none of these,
+-- and at these what stood there.
+pub record RecordsLeft (new : Option (List ℕ)) (place : ℕ) (places : List ℕ) (bytes bytes_now : ℕ → Option (List ℕ)) : Type 0 where
+  pub there : (line : List ℕ) → new ≡ Some line → bytes_now place ≡ Some line
+  pub unlisted : (line : List ℕ) → new ≡ Some line → Contains places place → ⊥
+  pub same : (stood : ℕ) → Contains places stood → bytes_now stood ≡ bytes stood
+
+-- Lists have the same members.
+pub record SameMembers (one other : List ℕ) : Type 0 where
+  pub to : (place : ℕ) → Contains one place → Contains other place
+  pub from : (place : ℕ) → Contains other place → Contains one place
