@@ -15,7 +15,8 @@ use Rattle.gaz_rows.proofs.Members.{head_is_in, tail_is_in}
 use Rattle.gaz_rows.proofs.Numbers.{same_key}
 use Rattle.gaz_rows.proofs.Settled.{put_there, put_elsewhere}
 use Rattle.gaz_rows.proofs.Reindexed.{is_in}
-use Rattle.gaz_rows.proofs.ReindexedLines.{filter_has, filter_had}
+use Rattle.gaz_rows.proofs.Counting.{passed}
+use Rattle.gaz_rows.proofs.ReindexedLines.{filter_has}
 
 false_is_true : false ≡ true → ⊥
 false_is_true is = cc
@@ -126,7 +127,7 @@ missing_has others keys key has lacks = filter_has (λ k. not (list_any (bytes_e
 
 pub missing_had : (others keys : List (List ℕ)) (key : List ℕ) → Contains (missing_in others keys) key → Contains keys key × (Contains others key → ⊥)
 missing_had others keys key has =
-    let was = filter_had (λ k. not (list_any (bytes_eq k) others)) keys key has in
+    let was = passed (λ k. not (list_any (bytes_eq k) others)) keys key has in
     (was.0, λ also. false_is_true (sym (ap not (in_any key others also)) ∙ was.1))
 
 -- of no others all are missing

@@ -5,7 +5,7 @@ use Rattle.std.specs.Ordering.{is_lt, is_gt, is_eq}
 use Rattle.std.specs.declared.cmp.Ordering.{Ordering}
 use Rattle.std.specs.declared.cmp.Ordering.TheVariants.{Less, Equal, Greater}
 use Rattle.std.proofs.lemmas.Bool.Decides.{nat_tests}
-use Rattle.std.proofs.lemmas.List.Elements.{All-contains, All-filter, All-contains_itself, filter_passes, Contains-append_left, Contains-append_right, Contains-append_cases}
+use Rattle.std.proofs.lemmas.List.Elements.{Contains-append_left, Contains-append_right, Contains-append_cases}
 use Rattle.gaz_num.specs.declared.words.Kind.{Kind}
 use Rattle.gaz_num.specs.declared.words.Table.{Table}
 use Rattle.gaz_num.specs.declared.words.Reason.{Reason}
@@ -13,7 +13,7 @@ use Rattle.gaz_num.specs.Check.{reason_against, key_in}
 use Rattle.gaz_plain.specs.Gazetteer.{Gazetteer, IsGazetteer, KeysRise, full, key_of, key_cmp, lines_in, with_lines, limit_of, table_of, is_delete, is_one_line, put_by, line_at, line_with, replaced, step, step_at, if_within, after_check, after_line}
 use Rattle.gaz_plain.specs.Laws.{IsGazetteerOf}
 use Rattle.gaz_plain.proofs.KeyOrder.{same_key, key_ties}
-use Rattle.gaz_plain.proofs.Steps.{own_lines, one_or_other}
+use Rattle.gaz_plain.proofs.Steps.{own_lines, one_or_other, key_of_put}
 use Rattle.gaz_plain.proofs.Selected.{found_by_key}
 use Rattle.gaz_plain.proofs.Kept.{line_keeps}
 use Rattle.gaz_keys.proofs.Tags.{contained, contained_none}
@@ -21,6 +21,7 @@ use Rattle.gaz_keys.proofs.Alike.{one_table}
 use Rattle.gaz_rows.specs.Steps.{line_put, IsOne, AreReplaced}
 use Rattle.gaz_rows.proofs.Members.{head_is_in, tail_is_in}
 use Rattle.gaz_rows.proofs.Keyed.{some_inj}
+use Rattle.gaz_rows.proofs.Counting.{passed}
 
 -- ---- lists
 
@@ -47,9 +48,6 @@ module _ {X : Type 0} (p : X → Bool) where
       by true is (inr later) rest = rw is (tail_is_in y (filter p ys) x (rest later))
       by false is (inl same) rest = absurd (false_is_true (sym is ∙ ap p same ∙ passes))
       by false is (inr later) rest = rw is (rest later)
-
-  pub filter_had : (xs : List X) (x : X) → Contains (filter p xs) x → Contains xs x × (p x ≡ true)
-  filter_had xs x has = (All-contains (Contains xs) (filter p xs) x (All-filter p (Contains xs) xs (All-contains_itself xs)) has, All-contains (λ y. p y ≡ true) (filter p xs) x (filter_passes p xs) has)
 
   pub filter_none : (xs : List X) → ((x : X) → Contains xs x → p x ≡ false) → filter p xs ≡ []
   filter_none [] none = refl
@@ -96,10 +94,10 @@ module _ (table : Table) (key : List ℕ) (put lines : List (List ℕ)) where
   was_in : (line : List ℕ) → Contains (replaced table key put lines) line → Contains put line ⊎ (Contains lines line × (key_of table line ≢ key))
   was_in line has = elim (Contains-append_cases (lesser ++ put) greater line has) [
     | inl front ↦ elim (Contains-append_cases lesser put line front) [
-      | inl less ↦ let was = filter_had (λ l. is_lt (key_cmp (key_of table l) key)) lines line less in inr (was.0, at_key line is_lt refl was.1)
+      | inl less ↦ let was = passed (λ l. is_lt (key_cmp (key_of table l) key)) lines line less in inr (was.0, at_key line is_lt refl was.1)
       | inr new ↦ inl new
     ]
-    | inr more ↦ let was = filter_had (λ l. is_gt (key_cmp (key_of table l) key)) lines line more in inr (was.0, at_key line is_gt refl was.1)
+    | inr more ↦ let was = passed (λ l. is_gt (key_cmp (key_of table l) key)) lines line more in inr (was.0, at_key line is_gt refl was.1)
   ]
 
   -- ---- how many there are
@@ -178,8 +176,13 @@ module _ (gaz : Gazetteer) (kind : Kind) (line key : List ℕ) (keyed : key_in k
       by true is = absurd (cc)
       by false is = subst (Contains (line ∷ [])) (some_inj line l is) (head_is_in line [])
 
-  edited : List (List ℕ)
-  edited = replaced table key (put_by kind line) (lines_in gaz table)
+  -- it has the key
+  new_key : (l : List ℕ) → new ≡ Some l → key_of table l ≡ key
+  new_key l = by (is_delete kind) refl
+    where
+      by : (b : Bool) → is_delete kind ≡ b → (if b then None else Some line) ≡ Some l → key_of table l ≡ key
+      by true deletes is = absurd (cc)
+      by false puts is = ap (key_of table) (sym (some_inj line l is)) ∙ key_of_put kind line key puts keyed
 
   abbrev edit : Gazetteer
   edit = with_lines gaz table (replaced table key (put_by kind line) (lines_in gaz table))
@@ -194,10 +197,13 @@ module _ (gaz : Gazetteer) (kind : Kind) (line key : List ℕ) (keyed : key_in k
       came = λ l here. subst (λ ls. Contains ls l) (sym (own_lines gaz table lines)) (put_in table key (put_by kind line) (lines_in gaz table) l (new_is l here));
       before = before;
       after = after;
+      fresh = fresh;
     }
       where
         lines : List (List ℕ)
         lines = replaced table key (put_by kind line) (lines_in gaz table)
+        fresh : (l : List ℕ) → new ≡ Some l → Contains (lines_in gaz table) l → old ≡ Some l
+        fresh l here has = ap (λ k. line_at table k (lines_in gaz table)) (sym (new_key l here)) ∙ found_itself table (lines_in gaz table) l (is.tables table).rising has
         before : (other : Table) (l : List ℕ) → Contains (lines_in edit other) l → IsOne table new other l ⊎ (Contains (lines_in gaz other) l × (IsOne table old other l → ⊥))
         before other l has = elim (one_table other table) [
           | inl same ↦

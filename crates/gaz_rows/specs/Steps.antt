@@ -39,6 +39,8 @@ pub record AreReplaced (gaz next : Gazetteer) (table : Table) (old new : Option 
       → IsOne table new other line ⊎ (Contains (lines_in gaz other) line × (IsOne table old other line → ⊥))
   -- A line that was there is the old one, or is there still.
   pub after : (other : Table) (line : List ℕ) → Contains (lines_in gaz other) line → IsOne table old other line ⊎ Contains (lines_in next other) line
+  -- A new line that was there is the old one.
+  pub fresh : (line : List ℕ) → new ≡ Some line → Contains (lines_in gaz table) line → old ≡ Some line
 
 -- Slots agree on the codes of a gazetteer.
 abbrev pub SameSlots : Gazetteer → Slots → Slots → Type 0
