@@ -1,0 +1,48 @@
+-- What a look-up by a key finds, of the tree and the records alone.
+use Rattle.std.specs.Prelude.{◌≡◌, Bool, ℕ, List, [], ◌∷◌, Option, Some, None, IsSome, IsTrue, bytes_eq, option_and_then, option_map, unwrap_or, find, map, All, Result, Ok, Err, if◌then◌else◌}
+use Rattle.gaz_num.specs.Pieces.{column}
+use Rattle.gaz_page.specs.declared.tree_root.Root.{Root}
+use Rattle.gaz_page.specs.Pages.{PagesView}
+use Rattle.gaz_heap.specs.Place.{record_at}
+use Rattle.gaz_leaf.specs.Node.{Pair, key_of}
+use Rattle.gaz_tree.specs.Pairs.{lookup}
+use Rattle.gaz_tree.specs.Tree.{IsTop}
+use Rattle.gaz_scan.specs.declared.scan.Scan.{Scan}
+use Rattle.gaz_scan.specs.Scan.{Comes, IsGiven}
+use Rattle.gaz_rows.specs.declared.fault.AskFault.{AskFault}
+use Rattle.gaz_rows.specs.declared.fault.AskFault.TheVariants.{Failed}
+use Rattle.gaz_rows.specs.Store.{IsAnswer, IsSound}
+
+-- what stands at the key: the record at the place that the tree has for it
+abbrev pub record_of : List ℕ → PagesView → List Pair → Option (List ℕ)
+record_of key v pairs = option_and_then (record_at v.page) (lookup (key_of key) pairs)
+
+-- A record stands at the place that the tree has for the key, if it has one.
+abbrev pub HasRecord : List ℕ → PagesView → List Pair → Type 0
+HasRecord key v pairs = (place : ℕ) → lookup (key_of key) pairs ≡ Some place → IsSome (record_at v.page place)
+
+-- Where there is a tree, and a record at the place that it has for the key, this holds of the pairs.
+abbrev pub OverRecord : List ℕ → PagesView → Root → (List Pair → Type 0) → Type 0
+OverRecord key v root P =
+    IsTrue v.is_told → (pairs : List Pair) → IsTop v.page root.height root.top pairs → HasRecord key v pairs → P pairs
+
+-- The answer is this record, or none.
+abbrev pub Finds : List ℕ → PagesView → Root → List ℕ → Option ℕ → Type 0
+Finds key v root buf found = OverRecord key v root (λ pairs. IsAnswer (record_of key v pairs) buf found)
+
+-- whether the first column of a line is the code
+abbrev pub has_code : List ℕ → List ℕ → Bool
+has_code code line = bytes_eq (column 1 line) code
+
+-- a record whose first column is the code
+abbrev pub if_coded : List ℕ → Option (List ℕ) → Option (List ℕ)
+if_coded code None = None
+if_coded code (Some line) = if has_code code line then Some line else None
+
+-- The answer is this record if its first column is the code, or none.
+abbrev pub FindsCoded : List ℕ → List ℕ → PagesView → Root → List ℕ → Option ℕ → Type 0
+FindsCoded key code v root buf found = OverRecord key v root (λ pairs. IsAnswer (if_coded code (record_of key v pairs)) buf found)
+
+-- The fault is no damage.
+abbrev pub FailsSoundly : List ℕ → PagesView → Root → AskFault → Type 0
+FailsSoundly key v root fault = OverRecord key v root (λ pairs. IsSound fault)

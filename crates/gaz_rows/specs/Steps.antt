@@ -1,0 +1,109 @@
+-- What a step does to the index: to the values of keys and the bytes at places, and to the pairs of the tree.
+use Rattle.std.specs.Prelude.{◌≡◌, ◌⊎◌, ℕ, List, [], ◌∷◌, Option, Some, None, if◌then◌else◌, option_and_then, Contains}
+use Rattle.gaz_num.specs.declared.words.Kind.{Kind}
+use Rattle.gaz_num.specs.declared.words.Table.{Table}
+use Rattle.gaz_num.specs.Pieces.{column}
+use Rattle.gaz_plain.specs.Gazetteer.{Gazetteer, is_delete, lines_in}
+use Rattle.gaz_leaf.specs.Node.{Pair, key_of}
+use Rattle.gaz_tree.specs.Pairs.{lookup, put}
+use Rattle.gaz_keys.specs.Keys.{IsKey}
+use Rattle.gaz_keys.specs.Lines.{more_keys}
+use Rattle.gaz_rows.specs.Index.{Slots, line_key, line_keys}
+use Rattle.gaz_rows.specs.Laid.{all_but}
+use Rattle.gaz_rows.specs.Work.{put_zeros, without_all, missing_in}
+
+-- the line that a line of a kind puts, and none where it only takes out
+abbrev pub line_put : Kind → List ℕ → Option (List ℕ)
+line_put kind line = if is_delete kind then None else Some line
+
+-- the keys of a line, if there is one
+abbrev pub keys_by : Slots → Table → Option (List ℕ) → List (List ℕ)
+keys_by slots table None = []
+keys_by slots table (Some line) = line_keys slots table line
+
+-- its other keys, whose value is 0
+abbrev pub more_by : Table → Option (List ℕ) → List (List ℕ)
+more_by table None = []
+more_by table (Some line) = more_keys table line
+
+-- That line of that table is this one.
+abbrev pub IsOne : Table → Option (List ℕ) → Table → List ℕ → Type 0
+IsOne table one other line = (other ≡ table) × (one ≡ Some line)
+
+-- In a table the one line, if there is one, has gone, and the other, if there is one, has come. All other lines are what they were.
+pub record AreReplaced (gaz next : Gazetteer) (table : Table) (old new : Option (List ℕ)) : Type 0 where
+  pub was : (line : List ℕ) → old ≡ Some line → Contains (lines_in gaz table) line
+  pub came : (line : List ℕ) → new ≡ Some line → Contains (lines_in next table) line
+  -- A line that is there is the new one, or was there and isn't the old one.
+  pub before : (other : Table) (line : List ℕ) → Contains (lines_in next other) line
+      → IsOne table new other line ⊎ (Contains (lines_in gaz other) line × (IsOne table old other line → ⊥))
+  -- A line that was there is the old one, or is there still.
+  pub after : (other : Table) (line : List ℕ) → Contains (lines_in gaz other) line → IsOne table old other line ⊎ Contains (lines_in next other) line
+  -- A new line that was there is the old one.
+  pub fresh : (line : List ℕ) → new ≡ Some line → Contains (lines_in gaz table) line → old ≡ Some line
+
+-- Slots agree on the codes of a gazetteer.
+abbrev pub SameSlots : Gazetteer → Slots → Slots → Type 0
+SameSlots gaz slots now = (line : List ℕ) → Contains gaz.codes line → now (column 1 line) ≡ slots (column 1 line)
+
+-- A key is that of one line alone.
+abbrev pub KeysTell : Slots → Gazetteer → Type 0
+KeysTell slots gaz = (table other : Table) (line another key : List ℕ) → Contains (lines_in gaz table) line → Contains (lines_in gaz other) another
+    → Contains (line_keys slots table line) key → Contains (line_keys slots other another) key → (table ≡ other) × (line ≡ another)
+
+-- The keys of lines have 32 bytes.
+abbrev pub LineKeysFit : Slots → Gazetteer → Type 0
+LineKeysFit slots gaz = (table : Table) (line key : List ℕ) → Contains (lines_in gaz table) line → Contains (line_keys slots table line) key → IsKey key
+
+-- The values of keys once the keys of the old line have gone and those of the new one have come. `place` is where the new line stands.
+pub record KeysStepped (slots : Slots) (table : Table) (old new : Option (List ℕ)) (place : ℕ) (value value_now : List ℕ → Option ℕ) : Type 0 where
+  pub at : (line : List ℕ) → new ≡ Some line → value_now (line_key slots table line) ≡ Some place
+  pub zeros : (key : List ℕ) → Contains (more_by table new) key → value_now key ≡ Some 0
+  pub gone : (key : List ℕ) → Contains (keys_by slots table old) key → (Contains (keys_by slots table new) key → ⊥) → value_now key ≡ None
+  pub others : (key : List ℕ) → IsKey key → (Contains (keys_by slots table old) key → ⊥) → (Contains (keys_by slots table new) key → ⊥) → value_now key ≡ value key
+
+-- The bytes at places once the old line has gone and the new one stands at its place. The other lines stand where they stood.
+pub record RecordsStepped (slots : Slots) (gaz : Gazetteer) (table : Table) (old new : Option (List ℕ)) (place : ℕ) (value : List ℕ → Option ℕ) (bytes bytes_now : ℕ → Option (List ℕ)) : Type 0 where
+  pub there : (line : List ℕ) → new ≡ Some line → bytes_now place ≡ Some line
+  pub others : (other : Table) (line : List ℕ) (stood : ℕ) → Contains (lines_in gaz other) line → (IsOne table old other line → ⊥) → value (line_key slots other line) ≡ Some stood → bytes_now stood ≡ bytes stood
+  -- The new line stands at the place of no other line.
+  pub alone : (other : Table) (line another : List ℕ) → Contains (lines_in gaz other) line → (IsOne table old other line → ⊥) → new ≡ Some another → value (line_key slots other line) ≡ Some place → ⊥
+
+-- a key with its value as the tree has them
+abbrev pub pair_at : List ℕ → ℕ → Pair
+pair_at key value = record { key = key_of key; value = value }
+
+-- The pairs after a step. Where it puts no line, all keys of the old one are taken out. Else the other keys that only the old line has are
+-- taken out, the key with the place is put, and the other keys that only the new line has are put.
+abbrev pub pairs_after : Slots → Table → Option (List ℕ) → Option (List ℕ) → ℕ → List Pair → List Pair
+pairs_after slots table old None place pairs = without_all (keys_by slots table old) pairs
+pairs_after slots table old (Some line) place pairs =
+    put_zeros (missing_in (more_by table old) (more_keys table line))
+    (put (pair_at (line_key slots table line) place)
+    (without_all (missing_in (more_keys table line) (more_by table old)) pairs))
+
+-- where a line stands, if there is one
+abbrev pub place_by : Slots → Table → List Pair → Option (List ℕ) → Option ℕ
+place_by slots table pairs one = option_and_then (λ line. lookup (key_of (line_key slots table line)) pairs) one
+
+-- the places but this one, if there is one
+abbrev pub but_old : Option ℕ → List ℕ → List ℕ
+but_old None places = places
+but_old (Some place) places = all_but place places
+
+-- the places and that of a new line, if there is one
+abbrev pub with_new : Option (List ℕ) → ℕ → List ℕ → List ℕ
+with_new None place places = places
+with_new (Some line) place places = place ∷ places
+
+-- What the records of a step leave, where lines stood at these places beside the old one: the new line at its place, which is none of these,
+-- and at these what stood there.
+pub record RecordsLeft (new : Option (List ℕ)) (place : ℕ) (places : List ℕ) (bytes bytes_now : ℕ → Option (List ℕ)) : Type 0 where
+  pub there : (line : List ℕ) → new ≡ Some line → bytes_now place ≡ Some line
+  pub unlisted : (line : List ℕ) → new ≡ Some line → Contains places place → ⊥
+  pub same : (stood : ℕ) → Contains places stood → bytes_now stood ≡ bytes stood
+
+-- Lists have the same members.
+pub record SameMembers (one other : List ℕ) : Type 0 where
+  pub to : (place : ℕ) → Contains one place → Contains other place
+  pub from : (place : ℕ) → Contains other place → Contains one place
