@@ -1,6 +1,7 @@
 -- Calls on the tree leave what is laid.
 use Rattle.std.proofs.Common.{◌≡◌, ◌<◌, ◌≤◌, ◌+◌, ◌*◌, ◌^◌, ℕ, suc, List, [], ◌∷◌, length, refl, sym, ◌∙◌, ap, subst, arith, inl, inr}
-use Rattle.std.specs.Prelude.{◌⊎◌, Bool, true, false, ◌==◌, if◌then◌else◌, Result, Ok, Err, IfErr, OnOk}
+use Rattle.std.specs.Prelude.{◌⊎◌, Bool, true, false, ◌==◌, not, if◌then◌else◌, bytes_eq, Result, Ok, Err, IfErr, OnOk}
+use Rattle.std.specs.List.{list_any}
 use Rattle.gaz_page.specs.declared.pages.PageFault.{PageFault}
 use Rattle.gaz_page.specs.declared.pages.PageFault.TheVariants.{Failed, Damaged, Memory}
 use Rattle.gaz_page.specs.declared.tree_root.Root.{Root}
@@ -13,7 +14,7 @@ use Rattle.gaz_tree.specs.Remove.{Returns}
 use Rattle.gaz_tree.specs.Stands.{Stands, OfTree, PutDamage, IsWithout}
 use Rattle.gaz_tree.proofs.Lists.{length-put_most}
 use Rattle.gaz_rows.specs.Laid.{IsLaid, LaidBy, HasRoom, tree_in, SameRecords}
-use Rattle.gaz_rows.specs.Work.{TurnsPairs, IsSoundWith, put_zeros, without_all}
+use Rattle.gaz_rows.specs.Work.{TurnsPairs, IsSoundWith, put_zeros, without_all, missing_in}
 use Rattle.gaz_rows.proofs.LaidKeys.{after_key_put, after_key_removed}
 
 -- the tree of a root, by its fields
@@ -94,58 +95,73 @@ without_fewer key (p ∷ ps) = by (p.key == key) (without_fewer key ps)
     by true less = omega arith
     by false less = omega (arith, less)
 
-module _ (old mid new : PagesView) (root between now : Root) where
-  -- The first key is put, then the others.
-  pub zeros_on : (keys : List (List ℕ)) (key : List ℕ) (rest : List (List ℕ)) → keys ≡ key ∷ rest → TurnsPairs 7 (put (record { key = key_of key; value = 0 })) old root mid between
-      → TurnsPairs (7 * length rest) (put_zeros rest) mid between new now → TurnsPairs (7 * length keys) (put_zeros keys) old root new now
-  zeros_on keys key rest is first others =
-      subst (λ ks. TurnsPairs (7 * length ks) (put_zeros ks) old root new now) (sym is)
-      (subst (λ n. TurnsPairs n (put_zeros (key ∷ rest)) old root new now) (sum (length rest))
-      (turns_on 7 (7 * length rest) (put (record { key = key_of key; value = 0 })) (put_zeros rest) old mid new root between now first others))
-    where
-      sum : (n : ℕ) → 7 + 7 * n ≡ 7 * suc n
-      sum n = omega arith
+-- A key of the front is one of the others, or isn't.
+pub missing_met : (others keys : List (List ℕ)) (key : List ℕ) (rest : List (List ℕ)) → keys ≡ key ∷ rest → list_any (bytes_eq key) others ≡ true → missing_in others keys ≡ missing_in others rest
+missing_met others keys key rest is met = ap (missing_in others) is ∙ ap (λ b. if not b then key ∷ missing_in others rest else missing_in others rest) met
 
-  -- The first key is taken out, then the others.
-  pub gone_on : (keys : List (List ℕ)) (key : List ℕ) (rest : List (List ℕ)) → keys ≡ key ∷ rest → TurnsPairs 0 (without (key_of key)) old root mid between
-      → TurnsPairs 0 (without_all rest) mid between new now → TurnsPairs 0 (without_all keys) old root new now
-  gone_on keys key rest is first others =
-      subst (λ ks. TurnsPairs 0 (without_all ks) old root new now) (sym is) (turns_on 0 0 (without (key_of key)) (without_all rest) old mid new root between now first others)
+pub missing_new : (others keys : List (List ℕ)) (key : List ℕ) (rest : List (List ℕ)) → keys ≡ key ∷ rest → list_any (bytes_eq key) others ≡ false → missing_in others keys ≡ key ∷ missing_in others rest
+missing_new others keys key rest is new = ap (missing_in others) is ∙ ap (λ b. if not b then key ∷ missing_in others rest else missing_in others rest) new
 
-  -- What is sound behind a turn is sound before it, with the room and the pairs that the turn takes.
-  pub sound_on : {T : Type 0} (result : Result T PageFault) (a b c d : ℕ) (f : List Pair → List Pair) → TurnsPairs a f old root mid between
-      → ((pairs : List Pair) → length (f pairs) ≤ length pairs + c) → IsSoundWith b d mid between result → IsSoundWith (a + b) (c + d) old root result
-  sound_on result a b c d f turn grows sound pairs kept places laid room few =
-      let one = turn pairs kept places laid in
-      let most = grows pairs in
-      sound (f pairs) kept places one.laid (one.room b (subst (λ k. HasRoom k old) (sum a b) room)) (omega (arith, most, few))
-    where
-      sum : (a b : ℕ) → a + b ≡ b + a
-      sum a b = omega arith
+-- What takes fewer pages takes no more than more.
+pub turns_within : (most least : ℕ) (f : List Pair → List Pair) (old new : PagesView) (root now : Root) → least ≤ most → TurnsPairs least f old root new now → TurnsPairs most f old root new now
+turns_within most least f old new root now less turn pairs kept places laid =
+    let one = turn pairs kept places laid in
+    record { laid = one.laid; same = one.same; room = λ n room. one.room n (less_room (n + most) (n + least) old (omega (arith, less)) room) }
 
-  pub zeros_sound : {T : Type 0} (result : Result T PageFault) (keys : List (List ℕ)) (key : List ℕ) (rest : List (List ℕ)) → keys ≡ key ∷ rest
-      → TurnsPairs 7 (put (record { key = key_of key; value = 0 })) old root mid between → IsSoundWith (7 * length rest) (length rest) mid between result
-      → IsSoundWith (7 * length keys) (length keys) old root result
-  zeros_sound result keys key rest is first others =
-      subst (λ ks. IsSoundWith (7 * length ks) (length ks) old root result) (sym is)
-      (subst (λ n. IsSoundWith n (suc (length rest)) old root result) (sum (length rest))
-      (subst (λ n. IsSoundWith (7 + 7 * length rest) n old root result) (one_more (length rest))
-      (sound_on result 7 (7 * length rest) 1 (length rest) (put (record { key = key_of key; value = 0 })) first (length-put_most (record { key = key_of key; value = 0 })) others)))
-    where
-      one_more : (n : ℕ) → 1 + n ≡ suc n
-      one_more n = omega arith
-      sum : (n : ℕ) → 7 + 7 * n ≡ 7 * suc n
-      sum n = omega arith
+pub sound_within : {T : Type 0} (result : Result T PageFault) (most least more fewer : ℕ) (v : PagesView) (root : Root) → least ≤ most → fewer ≤ more → IsSoundWith least fewer v root result
+    → IsSoundWith most more v root result
+sound_within result most least more fewer v root less few sound pairs kept places laid room within =
+    sound pairs kept places laid (less_room most least v less room) (omega (arith, few, within))
 
-  pub gone_sound : {T : Type 0} (result : Result T PageFault) (key : ℕ) → TurnsPairs 0 (without key) old root mid between → IsSoundWith 0 0 mid between result → IsSoundWith 0 0 old root result
-  gone_sound result key first others = sound_on result 0 0 0 0 (without key) first (λ pairs. fewer pairs) others
-    where
-      fewer : (pairs : List Pair) → length (without key pairs) ≤ length pairs + 0
-      fewer pairs = let less = without_fewer key pairs in omega (arith, less)
+module _ (old mid new : PagesView) (root between now : Root) (others keys : List (List ℕ)) (key : List ℕ) (rest : List (List ℕ)) (is : keys ≡ key ∷ rest) where
+  long : length keys ≡ suc (length rest)
+  long = ap length is
 
--- The first key is met by a put that is sound.
-pub zero_sound : (T U : Type 0) (old : PagesView) (root : Root) (keys : List (List ℕ)) (key : List ℕ) (rest : List (List ℕ)) → keys ≡ key ∷ rest → (fault : PageFault)
-    → IsSoundWith {T = T} 7 1 old root (Err fault) → IsSoundWith {T = U} (7 * length keys) (length keys) old root (Err fault)
-zero_sound T U old root keys key rest is fault sound pairs kept places laid room few =
-    let long = ap length is in
-    sound pairs kept places laid (less_room (7 * length keys) 7 old (omega (arith, long)) room) (omega (arith, long, few))
+  -- The first key is put, then the others; or it is passed over.
+  pub zeros_on : list_any (bytes_eq key) others ≡ false → TurnsPairs 7 (put (record { key = key_of key; value = 0 })) old root mid between
+      → TurnsPairs (7 * length rest) (put_zeros (missing_in others rest)) mid between new now → TurnsPairs (7 * length keys) (put_zeros (missing_in others keys)) old root new now
+  zeros_on new_ first more =
+      subst (λ ks. TurnsPairs (7 * length keys) (put_zeros ks) old root new now) (sym (missing_new others keys key rest is new_))
+      (turns_within (7 * length keys) (7 + 7 * length rest) (put_zeros (key ∷ missing_in others rest)) old new root now (omega (arith, long))
+      (turns_on 7 (7 * length rest) (put (record { key = key_of key; value = 0 })) (put_zeros (missing_in others rest)) old mid new root between now first more))
+
+  pub gone_on : list_any (bytes_eq key) others ≡ false → TurnsPairs 0 (without (key_of key)) old root mid between
+      → TurnsPairs 0 (without_all (missing_in others rest)) mid between new now → TurnsPairs 0 (without_all (missing_in others keys)) old root new now
+  gone_on new_ first more =
+      subst (λ ks. TurnsPairs 0 (without_all ks) old root new now) (sym (missing_new others keys key rest is new_))
+      (turns_on 0 0 (without (key_of key)) (without_all (missing_in others rest)) old mid new root between now first more)
+
+  -- What is sound behind the first is sound.
+  pub zeros_sound : {T : Type 0} (result : Result T PageFault) → TurnsPairs 7 (put (record { key = key_of key; value = 0 })) old root mid between
+      → IsSoundWith (7 * length rest) (length rest) mid between result → IsSoundWith (7 * length keys) (length keys) old root result
+  zeros_sound result first more pairs kept places laid room few =
+      let one = first pairs kept places laid in
+      let most = length-put_most (record { key = key_of key; value = 0 }) pairs in
+      more (put (record { key = key_of key; value = 0 }) pairs) kept places one.laid (one.room (7 * length rest) (less_room (7 * length keys) (7 * length rest + 7) old (omega (arith, long)) room))
+      (omega (arith, most, few, long))
+
+  pub gone_sound : {T : Type 0} (result : Result T PageFault) → TurnsPairs 0 (without (key_of key)) old root mid between → IsSoundWith 0 0 mid between result → IsSoundWith 0 0 old root result
+  gone_sound result first more pairs kept places laid room few =
+      let one = first pairs kept places laid in
+      let less = without_fewer (key_of key) pairs in
+      more (without (key_of key) pairs) kept places one.laid (one.room 0 room) (omega (arith, less, few))
+
+module _ (old new : PagesView) (root now : Root) (others keys : List (List ℕ)) (key : List ℕ) (rest : List (List ℕ)) (is : keys ≡ key ∷ rest) where
+  longer : length keys ≡ suc (length rest)
+  longer = ap length is
+
+  -- The first key is passed over.
+  pub zeros_past : list_any (bytes_eq key) others ≡ true → TurnsPairs (7 * length rest) (put_zeros (missing_in others rest)) old root new now → TurnsPairs (7 * length keys) (put_zeros (missing_in others keys)) old root new now
+  zeros_past met more =
+      subst (λ ks. TurnsPairs (7 * length keys) (put_zeros ks) old root new now) (sym (missing_met others keys key rest is met))
+      (turns_within (7 * length keys) (7 * length rest) (put_zeros (missing_in others rest)) old new root now (omega (arith, longer)) more)
+
+  pub gone_past : list_any (bytes_eq key) others ≡ true → TurnsPairs 0 (without_all (missing_in others rest)) old root new now → TurnsPairs 0 (without_all (missing_in others keys)) old root new now
+  gone_past met more = subst (λ ks. TurnsPairs 0 (without_all ks) old root new now) (sym (missing_met others keys key rest is met)) more
+
+  pub past_sound : {T : Type 0} (result : Result T PageFault) → IsSoundWith (7 * length rest) (length rest) old root result → IsSoundWith (7 * length keys) (length keys) old root result
+  past_sound result more = sound_within result (7 * length keys) (7 * length rest) (length keys) (length rest) old root (omega (arith, longer)) (omega (arith, longer)) more
+
+  pub first_sound : (T U : Type 0) (fault : PageFault) → IsSoundWith {T = T} 7 1 old root (Err fault) → IsSoundWith {T = U} (7 * length keys) (length keys) old root (Err fault)
+  first_sound T U fault sound pairs kept places laid room few =
+      sound pairs kept places laid (less_room (7 * length keys) 7 old (omega (arith, longer)) room) (omega (arith, longer, few))

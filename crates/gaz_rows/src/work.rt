@@ -1,14 +1,22 @@
 //! The parts of a step: single calls on the tree and on records.
-ghost use Rattle.std.specs.Prelude.{◌≡◌, ◌≤◌, ◌+◌, ◌*◌, ℕ, List, [], ◌∷◌, false, length, map, IsTrue, IfOk, IfErr, OnOk, Contains};
+ghost use Rattle.std.specs.Prelude.{◌≡◌, ◌≤◌, ◌+◌, ◌*◌, ℕ, List, [], ◌∷◌, false, length, map, IsTrue, IfOk, IfErr, OnOk, Contains, bytes_eq};
+ghost use Rattle.std.specs.List.{list_any};
 ghost use Rattle.gaz_page.specs.Pages.{Counts, Costs, HasPageCause, NotDamaged};
 ghost use Rattle.gaz_leaf.specs.Node.{Pair, key_of};
 ghost use Rattle.gaz_tree.specs.Pairs.{put, without};
 ghost use Rattle.gaz_rows.specs.Laid.{IsLaid, HasRoom};
-ghost use Rattle.gaz_rows.specs.Work.{put_zeros, without_all, GoesOn, ChangesFew, HasNewTree, HasNewHeap, TurnsPairs, IsSoundWith, HasAdded, HasDropped};
+ghost use Rattle.gaz_rows.specs.Work.{put_zeros, without_all, missing_in, GoesOn, ChangesFew, HasNewTree, HasNewHeap, TurnsPairs, IsSoundWith, HasAdded, HasDropped};
 
 use crate::RowStore;
 use gaz_heap::{drop_record, put as put_record};
 use gaz_page::{PageFault, Pages};
+
+/// Whether a key is one of these.
+fn is_among(keys: &[[u8; 32]], key: &[u8; 32]) -> bool
+    ensures { result ≡ list_any (bytes_eq key.now) keys.now }
+{
+    keys.contains(key)
+}
 
 impl<P: Pages> RowStore<P> {
     /// Puts a key with its value into the tree.
@@ -55,11 +63,15 @@ impl<P: Pages> RowStore<P> {
         Ok(())
     }
 
-    /// Puts keys with the value 0 into the tree.
-    pub(crate) fn put_zeros(&mut self, keys: &[[u8; 32]]) -> Result<(), PageFault>
+    /// Puts the keys that the others lack into the tree, with the value 0.
+    pub(crate) fn put_missing(
+        &mut self,
+        keys: &[[u8; 32]],
+        others: &[[u8; 32]],
+    ) -> Result<(), PageFault>
         requires may_change { (P.view self.old.pages).is_read_only ≡ false }
         ensures turns { OnOk result (IsTrue (P.view self.old.pages).is_told
-            → TurnsPairs (7 * length keys.now) (put_zeros keys.now) (P.view self.old.pages) self.old.root (P.view self.new.pages) self.new.root) }
+            → TurnsPairs (7 * length keys.now) (put_zeros (missing_in others.now keys.now)) (P.view self.old.pages) self.old.root (P.view self.new.pages) self.new.root) }
         ensures damaged { IsTrue (P.view self.old.pages).is_told → IsSoundWith (7 * length keys.now) (length keys.now) (P.view self.old.pages) self.old.root result }
         ensures root { HasNewTree self.old.root self.new.root }
         ensures goes_on { GoesOn (P.view self.old.pages) (P.view self.new.pages) }
@@ -70,17 +82,24 @@ impl<P: Pages> RowStore<P> {
         let Some((key, rest)) = keys.split_first() else {
             return Ok(());
         };
+        if is_among(others, key) {
+            return self.put_missing(rest, others);
+        }
         match self.put_key(key, 0) {
-            Ok(()) => self.put_zeros(rest),
+            Ok(()) => self.put_missing(rest, others),
             Err(fault) => Err(fault),
         }
     }
 
-    /// Takes keys out of the tree.
-    pub(crate) fn remove_all(&mut self, keys: &[[u8; 32]]) -> Result<(), PageFault>
+    /// Takes the keys that the others lack out of the tree.
+    pub(crate) fn remove_missing(
+        &mut self,
+        keys: &[[u8; 32]],
+        others: &[[u8; 32]],
+    ) -> Result<(), PageFault>
         requires may_change { (P.view self.old.pages).is_read_only ≡ false }
         ensures turns { OnOk result (IsTrue (P.view self.old.pages).is_told
-            → TurnsPairs 0 (without_all keys.now) (P.view self.old.pages) self.old.root (P.view self.new.pages) self.new.root) }
+            → TurnsPairs 0 (without_all (missing_in others.now keys.now)) (P.view self.old.pages) self.old.root (P.view self.new.pages) self.new.root) }
         ensures damaged { IsTrue (P.view self.old.pages).is_told → IsSoundWith 0 0 (P.view self.old.pages) self.old.root result }
         ensures root { HasNewTree self.old.root self.new.root }
         ensures goes_on { GoesOn (P.view self.old.pages) (P.view self.new.pages) }
@@ -91,8 +110,11 @@ impl<P: Pages> RowStore<P> {
         let Some((key, rest)) = keys.split_first() else {
             return Ok(());
         };
+        if is_among(others, key) {
+            return self.remove_missing(rest, others);
+        }
         match self.remove_key(key) {
-            Ok(()) => self.remove_all(rest),
+            Ok(()) => self.remove_missing(rest, others),
             Err(fault) => Err(fault),
         }
     }
