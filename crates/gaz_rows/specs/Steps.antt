@@ -1,14 +1,16 @@
 -- What a step does to the index: to the values of keys and the bytes at places, and to the pairs of the tree.
-use Rattle.std.specs.Prelude.{◌≡◌, ◌⊎◌, ℕ, List, [], ◌∷◌, Option, Some, None, if◌then◌else◌, option_and_then, Contains}
+use Rattle.std.specs.Prelude.{◌≡◌, ◌⊎◌, ◌^◌, ℕ, List, [], ◌∷◌, Option, Some, None, IsSome, IsTrue, Ok, if◌then◌else◌, option_and_then, Contains}
 use Rattle.gaz_num.specs.declared.words.Kind.{Kind}
 use Rattle.gaz_num.specs.declared.words.Table.{Table}
 use Rattle.gaz_num.specs.Pieces.{column}
-use Rattle.gaz_plain.specs.Gazetteer.{Gazetteer, is_delete, lines_in}
+use Rattle.gaz_num.specs.Check.{key_in}
+use Rattle.gaz_plain.specs.Gazetteer.{Gazetteer, IsGazetteer, table_of, is_delete, is_one_line, lines_in, line_with, after_line}
 use Rattle.gaz_leaf.specs.Node.{Pair, key_of}
-use Rattle.gaz_tree.specs.Pairs.{lookup, put}
+use Rattle.gaz_tree.specs.Pairs.{Within, lookup, put}
 use Rattle.gaz_keys.specs.Keys.{IsKey}
 use Rattle.gaz_keys.specs.Lines.{more_keys}
-use Rattle.gaz_rows.specs.Index.{Slots, line_key, line_keys}
+use Rattle.gaz_rows.specs.Index.{Slots, line_key, line_keys, IsIndexed, SlotsDiffer}
+use Rattle.gaz_rows.specs.Stands.{value_in, places_in}
 use Rattle.gaz_rows.specs.Laid.{all_but}
 use Rattle.gaz_rows.specs.Work.{put_zeros, without_all, missing_in}
 
@@ -107,3 +109,28 @@ pub record RecordsLeft (new : Option (List ℕ)) (place : ℕ) (places : List �
 pub record SameMembers (one other : List ℕ) : Type 0 where
   pub to : (place : ℕ) → Contains one place → Contains other place
   pub from : (place : ℕ) → Contains other place → Contains one place
+
+-- the line that one of a kind with this key replaces, if there is one
+abbrev pub old_by : Gazetteer → Kind → List ℕ → Option (List ℕ)
+old_by gaz kind key = line_with (table_of kind) key gaz
+
+-- the places of the lines but that one
+abbrev pub other_places : Slots → Gazetteer → Kind → List ℕ → List Pair → List ℕ
+other_places slots gaz kind key pairs = but_old (place_by slots (table_of kind) pairs (old_by gaz kind key)) (places_in pairs)
+
+-- the pairs after a step with a line of a kind and its key, where it stands at this place if it is put
+abbrev pub pairs_with : Slots → Gazetteer → Kind → List ℕ → List ℕ → ℕ → List Pair → List Pair
+pairs_with slots gaz kind line key place pairs = pairs_after slots (table_of kind) (old_by gaz kind key) (line_put kind line) place pairs
+
+-- A gazetteer with a date takes a line with a key. Pairs whose keys rise, and records, hold the gazetteer. Other slots agree with its own on
+-- its codes, and tell all codes of the next one apart.
+pub record TakesLine (slots now : Slots) (gaz next : Gazetteer) (kind : Kind) (line key : List ℕ) (pairs : List Pair) (bytes : ℕ → Option (List ℕ)) : Type 0 where
+  pub is_gazetteer : IsGazetteer gaz
+  pub dated : IsSome gaz.date
+  pub one_line : IsTrue (is_one_line line)
+  pub keyed : key_in kind line ≡ Some key
+  pub taken : after_line gaz kind line ≡ Ok next
+  pub rising : Within 0 (2 ^ 256) pairs
+  pub held : IsIndexed slots gaz (value_in [] pairs) bytes
+  pub same_slots : SameSlots gaz slots now
+  pub slots_differ : SlotsDiffer now next
