@@ -1,8 +1,11 @@
 -- What a step does to the index: to the values of keys and the bytes at places, and to the pairs of the tree.
-use Rattle.std.specs.Prelude.{◌≡◌, ◌⊎◌, ◌^◌, ℕ, List, [], ◌∷◌, Option, Some, None, IsSome, IsTrue, Ok, if◌then◌else◌, option_and_then, Contains}
+use Rattle.std.specs.Prelude.{◌≡◌, ◌≢◌, ◌⊎◌, ◌^◌, ℕ, List, [], ◌∷◌, Option, Some, None, IsSome, is_some, IsTrue, Ok, bytes_eq, if◌then◌else◌, option_and_then, Contains}
 use Rattle.gaz_num.specs.declared.words.Kind.{Kind}
 use Rattle.gaz_num.specs.declared.words.Table.{Table}
+use Rattle.gaz_num.specs.declared.words.Table.TheVariants.{Rows, Alternates, Links, Countries, Codes}
 use Rattle.gaz_num.specs.Pieces.{column}
+use Rattle.gaz_name.specs.Name.{first_bytes}
+use Rattle.gaz_page.specs.declared.root.LineCounts.{LineCounts}
 use Rattle.gaz_num.specs.Check.{key_in}
 use Rattle.gaz_plain.specs.Gazetteer.{Gazetteer, IsGazetteer, table_of, is_delete, is_one_line, lines_in, line_with, after_line}
 use Rattle.gaz_leaf.specs.Node.{Pair, key_of}
@@ -44,9 +47,37 @@ pub record AreReplaced (gaz next : Gazetteer) (table : Table) (old new : Option 
   -- A new line that was there is the old one.
   pub fresh : (line : List ℕ) → new ≡ Some line → Contains (lines_in gaz table) line → old ≡ Some line
 
+-- how many lines a table has, by the counts of all
+abbrev pub counted : LineCounts → Table → ℕ
+counted counts Rows = counts.rows
+counted counts Alternates = counts.alternates
+counted counts Links = counts.links
+counted counts Countries = counts.countries
+counted counts Codes = counts.codes
+
+-- the counts with so many lines of a table
+abbrev pub recounted : LineCounts → Table → ℕ → LineCounts
+recounted counts Rows n = record counts { rows = n }
+recounted counts Alternates n = record counts { alternates = n }
+recounted counts Links n = record counts { links = n }
+recounted counts Countries n = record counts { countries = n }
+recounted counts Codes n = record counts { codes = n }
+
+-- one where there is a line, and none where there is none
+abbrev pub one_if : Option (List ℕ) → ℕ
+one_if line = if is_some line then 1 else 0
+
 -- Slots agree on the codes of a gazetteer.
 abbrev pub SameSlots : Gazetteer → Slots → Slots → Type 0
 SameSlots gaz slots now = (line : List ℕ) → Contains gaz.codes line → now (column 1 line) ≡ slots (column 1 line)
+
+-- the slots with this one for a code
+abbrev pub slot_with : Slots → List ℕ → ℕ → Slots
+slot_with slots code slot = λ text. if bytes_eq text code then slot else slots text
+
+-- No code of the gazetteer with the same first bytes as this one has the slot.
+abbrev pub IsFreeSlot : Slots → Gazetteer → List ℕ → ℕ → Type 0
+IsFreeSlot slots gaz code slot = (line : List ℕ) → Contains gaz.codes line → first_bytes 23 (column 1 line) ≡ first_bytes 23 code → slots (column 1 line) ≢ slot
 
 -- A key is that of one line alone.
 abbrev pub KeysTell : Slots → Gazetteer → Type 0
