@@ -191,6 +191,17 @@ module _ (slots : Slots) (gaz : Gazetteer) (pairs : List Pair) (bytes : ℕ → 
       alone = λ other line another there isnt is at. left.unlisted another is (other_place other line place there isnt at);
     }
 
+    -- the key with a place of the new line is no other line's
+    pub not_another : KeysTell slots next → (line : List ℕ) → new ≡ Some line → (other : Table) (l : List ℕ) → Contains (lines_in gaz other) l → line_key slots other l ≡ line_key slots table line → IsOne table old other l
+    not_another tell_now line is other l there same = elim (replaced.after other l there) [
+      | inl one ↦ one
+      | inr still ↦
+        let told = tell_now other table l line (line_key slots other l) still (replaced.came line is) (head_is_in (line_key slots other l) (more_keys other l))
+            (subst (Contains (line_keys slots table line)) (sym same) (head_is_in (line_key slots table line) (more_keys table line))) in
+        let here : Contains (lines_in gaz table) line = subst (λ m. Contains (lines_in gaz table) m) told.1 (subst (λ t. Contains (lines_in gaz t) l) told.0 there) in
+        (told.0, replaced.fresh line is here ∙ ap Some (sym told.1))
+    ]
+
     -- ---- the places after a step
 
     module _ (now : List Pair) (keys : KeysStepped slots table old new place (value_in [] pairs) (value_in [] now)) (rising_now : Within 0 (2 ^ 256) now) (tell_now : KeysTell slots next) (fit_now : LineKeysFit slots next) where
@@ -248,17 +259,6 @@ module _ (slots : Slots) (gaz : Gazetteer) (pairs : List Pair) (bytes : ℕ → 
                   let lists_same : line_key slots table from.0 ≡ key = same_key (line_key slots table from.0) key old_fits (bytes_fit found.key) (sym keys_same ∙ sym (number found.key found.small)) in
                   not_old (of_line slots table old from.0 key from.1 (subst (Contains (line_keys slots table from.0)) lists_same (head_is_in (line_key slots table from.0) (more_keys table from.0))))
 
-      -- the key with a place of the new line is no other line's
-      not_another : (line : List ℕ) → new ≡ Some line → (other : Table) (l : List ℕ) → Contains (lines_in gaz other) l → line_key slots other l ≡ line_key slots table line → IsOne table old other l
-      not_another line is other l there same = elim (replaced.after other l there) [
-        | inl one ↦ one
-        | inr still ↦
-          let told = tell_now other table l line (line_key slots other l) still (replaced.came line is) (head_is_in (line_key slots other l) (more_keys other l))
-              (subst (Contains (line_keys slots table line)) (sym same) (head_is_in (line_key slots table line) (more_keys table line))) in
-          let here : Contains (lines_in gaz table) line = subst (λ m. Contains (lines_in gaz table) m) told.1 (subst (λ t. Contains (lines_in gaz t) l) told.0 there) in
-          (told.0, replaced.fresh line is here ∙ ap Some (sym told.1))
-      ]
-
       from : (p : ℕ) → Contains (with_new new place others) p → Contains (places_in now) p
       from p has = elim (new_from new place others p has) [
         | inl one ↦
@@ -285,7 +285,7 @@ module _ (slots : Slots) (gaz : Gazetteer) (pairs : List Pair) (bytes : ℕ → 
                   let same = is_place new of.0 key of.1 (bytes_tag found.key found.small found.tag) of.2 in
                   let line = line_at found.key p found.tag found.at in
                   let line_same : line_key slots line.table line.line ≡ key = same_key (line_key slots line.table line.line) key (line_fits line.table line.line line.there) (bytes_fit found.key) (line.is ∙ sym (number found.key found.small)) in
-                  let one = not_another of.0 of.1 line.table line.line line.there (line_same ∙ sym same) in
+                  let one = not_another tell_now of.0 of.1 line.table line.line line.there (line_same ∙ sym same) in
                   not_old (of_line slots table old line.line key one.1 (subst (λ t. Contains (line_keys slots t line.line) key) one.0 (subst (Contains (line_keys slots line.table line.line)) line_same (head_is_in (line_key slots line.table line.line) (more_keys line.table line.line)))))
 
       -- The places then are those of the other lines, and that of the new one.

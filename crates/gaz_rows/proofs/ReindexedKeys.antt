@@ -16,9 +16,10 @@ use Rattle.gaz_keys.specs.Lines.{key_at, more_keys, keys_of, kind_of, IsKeyed}
 use Rattle.gaz_keys.specs.Laws.{AreAlike}
 use Rattle.gaz_keys.proofs.Apart.{keys_tell_their_line}
 use Rattle.gaz_keys.proofs.KeysFit.{keys_fit}
-use Rattle.gaz_keys.proofs.Alike.{one_slot, has_slot, alike_are, same_place, same_code}
+use Rattle.gaz_keys.proofs.Alike.{one_slot, HasSlot, has_slot, alike_are, same_place, same_code}
 use Rattle.gaz_rows.specs.Index.{Slots, line_key, line_keys, SlotsDiffer}
-use Rattle.gaz_rows.specs.Steps.{KeysTell, LineKeysFit}
+use Rattle.gaz_rows.specs.Steps.{KeysTell, LineKeysFit, IsSlotOf}
+use Rattle.gaz_rows.proofs.Members.{head_is_in}
 use Rattle.gaz_rows.proofs.Fit.{keyed}
 use Rattle.gaz_rows.proofs.ReindexedLines.{has_key, one_line, find_has}
 
@@ -92,3 +93,30 @@ module _ (slots : Slots) (gaz : Gazetteer) (is : IsGazetteer gaz) where
       same =
           some_of (key_in (kind_of (table_of k)) found) keyed_found.keyed (sym (ap (λ t. unwrap_or (key_in t found) []) (kinds (table_of k))) ∙ same_key (key_of (table_of k) found) key there.1)
           ∙ sym has ∙ in_table k line
+
+  -- A line that has the key with a place of another one has its key in the table: of codes, where the other's slot is told apart.
+  pub key_told : (k : Kind) (line key found : List ℕ) → key_in k line ≡ Some key → IsKeyed (table_of k) line → Contains (lines_in gaz (table_of k)) found → SlotsDiffer slots gaz
+      → (table_of k ≡ Codes → IsSlotOf slots gaz (column 1 line)) → line_key slots (table_of k) found ≡ line_key slots (table_of k) line → key_of (table_of k) found ≡ key
+  key_told k line key found has is_line there differ slot same =
+      ap (λ t. unwrap_or (key_in t found) []) (kinds table) ∙ ap (λ o. unwrap_or o []) (alike (alike_are table one.other two.other found line told.1)) ∙ ap (λ o. unwrap_or o []) (sym (in_table k line) ∙ has)
+    where
+      table : Table
+      table = table_of k
+      one : HasSlot (table_of k) (slots (column 1 found))
+      one = has_slot (table_of k) (slots (column 1 found)) (small differ (table_of k) found there)
+      two : HasSlot (table_of k) (slots (column 1 line))
+      two = has_slot (table_of k) (slots (column 1 line)) (λ codes. (slot codes).small)
+      place_one : line_key slots (table_of k) found ≡ key_at (table_of k) one.other found
+      place_one = one_slot (table_of k) (slots (column 1 found)) one.other found one.is
+      place_two : line_key slots (table_of k) line ≡ key_at (table_of k) two.other line
+      place_two = one_slot (table_of k) (slots (column 1 line)) two.other line two.is
+      told : (table_of k ≡ table_of k) × AreAlike (table_of k) one.other found two.other line
+      told = keys_tell_their_line (table_of k) (table_of k) one.other two.other found line (line_key slots (table_of k) line) one.small two.small (line_keyed (table_of k) found there) is_line
+          (subst (λ first. Contains (first ∷ more_keys (table_of k) found) (line_key slots (table_of k) line)) place_one (subst (Contains (line_keys slots (table_of k) found)) same (head_is_in (line_key slots (table_of k) found) (more_keys (table_of k) found))))
+          (subst (λ first. Contains (first ∷ more_keys (table_of k) line) (line_key slots (table_of k) line)) place_two (head_is_in (line_key slots (table_of k) line) (more_keys (table_of k) line)))
+      alike : (key_in (kind_of (table_of k)) found ≡ key_in (kind_of (table_of k)) line) ⊎ ((table_of k ≡ Codes) × ((one.other ≡ two.other) × (first_bytes 23 (column 1 found) ≡ first_bytes 23 (column 1 line))))
+          → key_in (kind_of (table_of k)) found ≡ key_in (kind_of (table_of k)) line
+      alike (inl is) = is
+      alike (inr codes) =
+          let text : column 1 found ≡ column 1 line = (slot codes.0).alone found (subst (λ t. Contains (lines_in gaz t) found) codes.0 there) codes.1.1 (one.is codes.0 ∙ codes.1.0 ∙ sym (two.is codes.0)) in
+          subst (λ t. key_in (kind_of t) found ≡ key_in (kind_of t) line) (sym codes.0) (ap Some text)

@@ -1,14 +1,19 @@
 -- What a step does to the index: to the values of keys and the bytes at places, and to the pairs of the tree.
-use Rattle.std.specs.Prelude.{◌≡◌, ◌⊎◌, ℕ, List, [], ◌∷◌, Option, Some, None, if◌then◌else◌, option_and_then, Contains}
+use Rattle.std.specs.Prelude.{◌≡◌, ◌≢◌, ◌<◌, ◌⊎◌, ◌^◌, ℕ, List, [], ◌∷◌, Option, Some, None, IsSome, is_some, IsTrue, bytes_eq, if◌then◌else◌, option_and_then, Contains}
 use Rattle.gaz_num.specs.declared.words.Kind.{Kind}
 use Rattle.gaz_num.specs.declared.words.Table.{Table}
+use Rattle.gaz_num.specs.declared.words.Table.TheVariants.{Rows, Alternates, Links, Countries, Codes}
 use Rattle.gaz_num.specs.Pieces.{column}
-use Rattle.gaz_plain.specs.Gazetteer.{Gazetteer, is_delete, lines_in}
+use Rattle.gaz_name.specs.Name.{first_bytes}
+use Rattle.gaz_page.specs.declared.root.LineCounts.{LineCounts}
+use Rattle.gaz_num.specs.Check.{reason_against, key_in}
+use Rattle.gaz_plain.specs.Gazetteer.{Gazetteer, IsGazetteer, table_of, is_delete, is_one_line, lines_in, line_with}
 use Rattle.gaz_leaf.specs.Node.{Pair, key_of}
-use Rattle.gaz_tree.specs.Pairs.{lookup, put}
+use Rattle.gaz_tree.specs.Pairs.{Within, lookup, put}
 use Rattle.gaz_keys.specs.Keys.{IsKey}
 use Rattle.gaz_keys.specs.Lines.{more_keys}
-use Rattle.gaz_rows.specs.Index.{Slots, line_key, line_keys}
+use Rattle.gaz_rows.specs.Index.{Slots, line_key, line_keys, IsIndexed}
+use Rattle.gaz_rows.specs.Stands.{value_in, places_in}
 use Rattle.gaz_rows.specs.Laid.{all_but}
 use Rattle.gaz_rows.specs.Work.{put_zeros, without_all, missing_in}
 
@@ -42,9 +47,42 @@ pub record AreReplaced (gaz next : Gazetteer) (table : Table) (old new : Option 
   -- A new line that was there is the old one.
   pub fresh : (line : List ℕ) → new ≡ Some line → Contains (lines_in gaz table) line → old ≡ Some line
 
+-- how many lines a table has, by the counts of all
+abbrev pub counted : LineCounts → Table → ℕ
+counted counts Rows = counts.rows
+counted counts Alternates = counts.alternates
+counted counts Links = counts.links
+counted counts Countries = counts.countries
+counted counts Codes = counts.codes
+
+-- the counts with so many lines of a table
+abbrev pub recounted : LineCounts → Table → ℕ → LineCounts
+recounted counts Rows n = record counts { rows = n }
+recounted counts Alternates n = record counts { alternates = n }
+recounted counts Links n = record counts { links = n }
+recounted counts Countries n = record counts { countries = n }
+recounted counts Codes n = record counts { codes = n }
+
+-- one where there is a line, and none where there is none
+abbrev pub one_if : Option (List ℕ) → ℕ
+one_if line = if is_some line then 1 else 0
+
 -- Slots agree on the codes of a gazetteer.
 abbrev pub SameSlots : Gazetteer → Slots → Slots → Type 0
 SameSlots gaz slots now = (line : List ℕ) → Contains gaz.codes line → now (column 1 line) ≡ slots (column 1 line)
+
+-- the slots with this one for a code
+abbrev pub slot_with : Slots → List ℕ → ℕ → Slots
+slot_with slots code slot = λ text. if bytes_eq text code then slot else slots text
+
+-- No code of the gazetteer with the same first bytes as this one has the slot.
+abbrev pub IsFreeSlot : Slots → Gazetteer → List ℕ → ℕ → Type 0
+IsFreeSlot slots gaz code slot = (line : List ℕ) → Contains gaz.codes line → first_bytes 23 (column 1 line) ≡ first_bytes 23 code → slots (column 1 line) ≢ slot
+
+-- The slot of a code has four bytes, and no other code of the gazetteer with the same first bytes has it.
+pub record IsSlotOf (slots : Slots) (gaz : Gazetteer) (code : List ℕ) : Type 0 where
+  pub small : slots code < 2 ^ 32
+  pub alone : (line : List ℕ) → Contains gaz.codes line → first_bytes 23 (column 1 line) ≡ first_bytes 23 code → slots (column 1 line) ≡ slots code → column 1 line ≡ code
 
 -- A key is that of one line alone.
 abbrev pub KeysTell : Slots → Gazetteer → Type 0
@@ -107,3 +145,28 @@ pub record RecordsLeft (new : Option (List ℕ)) (place : ℕ) (places : List �
 pub record SameMembers (one other : List ℕ) : Type 0 where
   pub to : (place : ℕ) → Contains one place → Contains other place
   pub from : (place : ℕ) → Contains other place → Contains one place
+
+-- the line that one of a kind with this key replaces, if there is one
+abbrev pub old_by : Gazetteer → Kind → List ℕ → Option (List ℕ)
+old_by gaz kind key = line_with (table_of kind) key gaz
+
+-- the places of the lines but that one
+abbrev pub other_places : Slots → Gazetteer → Kind → List ℕ → List Pair → List ℕ
+other_places slots gaz kind key pairs = but_old (place_by slots (table_of kind) pairs (old_by gaz kind key)) (places_in pairs)
+
+-- the pairs after a step with a line of a kind and its key, where it stands at this place if it is put
+abbrev pub pairs_with : Slots → Gazetteer → Kind → List ℕ → List ℕ → ℕ → List Pair → List Pair
+pairs_with slots gaz kind line key place pairs = pairs_after slots (table_of kind) (old_by gaz kind key) (line_put kind line) place pairs
+
+-- A gazetteer with a date meets a line that its check accepts and that has a key. Pairs whose keys rise, and records, hold the gazetteer. Other
+-- slots agree with its own on its codes, and a code that comes has one of them.
+pub record MeetsLine (slots now : Slots) (gaz : Gazetteer) (kind : Kind) (line key : List ℕ) (pairs : List Pair) (bytes : ℕ → Option (List ℕ)) : Type 0 where
+  pub is_gazetteer : IsGazetteer gaz
+  pub dated : IsSome gaz.date
+  pub one_line : IsTrue (is_one_line line)
+  pub accepted : reason_against kind line ≡ None
+  pub keyed : key_in kind line ≡ Some key
+  pub rising : Within 0 (2 ^ 256) pairs
+  pub held : IsIndexed slots gaz (value_in [] pairs) bytes
+  pub same_slots : SameSlots gaz slots now
+  pub slot : table_of kind ≡ Codes → IsSlotOf now gaz (column 1 line)
