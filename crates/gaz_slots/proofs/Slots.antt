@@ -1,8 +1,10 @@
 -- Slots of a page in form, and what was written into one.
-use Rattle.std.proofs.Common.{◌≡◌, ◌≤◌, ◌<◌, ◌+◌, ◌*◌, ℕ, true, List, sym, ◌∙◌, arith}
-use Rattle.gaz_slots.specs.RecordPage.{count_in, is_record_page}
+use Rattle.std.proofs.Common.{◌≡◌, ◌≢◌, ◌≤◌, ◌<◌, ◌+◌, ◌*◌, ℕ, true, List, sym, ◌∙◌, arith, inl, inr, None}
+use Rattle.std.specs.Prelude.{nat_lt, not, ◌==◌}
+use Rattle.std.proofs.lemmas.Bool.{ltb-true, and_parts, cases_eq, eq-eqb, false≢true}
+use Rattle.gaz_slots.specs.RecordPage.{count_in, from_in, is_used, is_record_page, slot_record}
 use Rattle.gaz_slots.specs.Edited.{Filled, FilledExactly, Packs}
-use Rattle.gaz_slots.proofs.Form.{form_says}
+use Rattle.gaz_slots.proofs.Form.{form_says, used_record}
 
 pub slots_fit : (number : ℕ) (page : List ℕ) → is_record_page number page ≡ true → 16 + 4 * count_in page ≤ 4096
 slots_fit number page form = let f = form_says number page form in omega (arith, f.slots, f.mark)
@@ -17,3 +19,18 @@ filled_packed number slot bytes old packed new p f = record {
   was_free = sym (p.records slot) ∙ f.was_free;
   others = λ k differs. f.others k differs ∙ p.records k;
 }
+
+pub used_below : (page : List ℕ) (slot : ℕ) → is_used page slot ≡ true → slot < count_in page
+used_below page slot used = ltb-true slot (count_in page) (and_parts (nat_lt slot (count_in page)) (not (from_in page slot == 0)) used).0
+
+pub used_from : (page : List ℕ) (slot : ℕ) → is_used page slot ≡ true → from_in page slot ≢ 0
+used_from page slot used free =
+    let not_free = (and_parts (nat_lt slot (count_in page)) (not (from_in page slot == 0)) used).1 in
+    false≢true ((λ i. not (sym (eq-eqb (from_in page slot) 0 free) i)) ∙ not_free)
+
+pub free_from : (page : List ℕ) (slot : ℕ) → slot < count_in page → slot_record page slot ≡ None → from_in page slot ≡ 0
+free_from page slot below none_ =
+    elim (cases_eq (from_in page slot) 0) [
+      | inl free ↦ free
+      | inr used ↦ let wrong = sym none_ ∙ used_record page slot below used in absurd cc
+    ]
