@@ -1,7 +1,7 @@
 -- A record was put in place of the one of a slot: what becomes of all others.
-use Rattle.std.proofs.Common.{◌≡◌, ◌≢◌, ◌≤◌, ◌<◌, ℕ, true, false, List, length, refl, sym, ◌∙◌, subst, arith, inl, inr, Some}
-use Rattle.std.specs.Prelude.{Bool, IsTrue, IsSome, Option, Result, Ok, Err, IfOk}
-use Rattle.std.proofs.lemmas.Bool.{cases_Bool, false_from_ne_true}
+use Rattle.std.proofs.Common.{◌≡◌, ◌≢◌, ◌≤◌, ◌<◌, ℕ, zero, suc, true, false, List, length, refl, sym, ap, ◌∙◌, subst, arith, inl, inr, Some, None}
+use Rattle.std.specs.Prelude.{Bool, if◌then◌else◌, ◌==◌, IsTrue, IsSome, Option, Result, Ok, Err, IfOk}
+use Rattle.std.proofs.lemmas.Bool.{cases_Bool, cases_eq, cases_lt, false_from_ne_true}
 use Rattle.gaz_page.specs.declared.pages.PageFault.{PageFault}
 use Rattle.gaz_page.specs.declared.pages.PageFault.TheVariants.{Failed, Damaged, Memory}
 use Rattle.gaz_page.specs.Pages.{PagesView, SamePages, Writes}
@@ -13,10 +13,14 @@ use Rattle.gaz_slots.proofs.Form.{used_record}
 use Rattle.gaz_slots.proofs.Slots.{used_below, used_from, record_size, size_small}
 use Rattle.gaz_slots.proofs.RoomLeft.{used_there}
 use Rattle.gaz_slots.proofs.Recorded.{formed, unformed}
+use Rattle.gaz_slots.specs.Overflow.{is_overflow_page, next_in, piece_in}
+use Rattle.gaz_slots.proofs.PageKinds.{overflow_not_record}
+use Rattle.gaz_heap.specs.Chain.{chain_at, long_enough, with_piece}
 use Rattle.gaz_heap.specs.Place.{record_at, page_of, slot_of, is_chain}
 use Rattle.gaz_heap.specs.Heap.{HasReplaced, ReplacesSlot, DropDamage}
 use Rattle.gaz_heap.specs.Facts.{Replaces}
-use Rattle.gaz_heap.proofs.Holds.{record_slot, pages_slot, nothing}
+use Rattle.gaz_heap.proofs.Chain.{chain_unformed}
+use Rattle.gaz_heap.proofs.Holds.{record_slot, record_chain, pages_slot, none_at_0, far, nothing}
 use Rattle.gaz_heap.proofs.Placing.{slot_place}
 use Rattle.gaz_heap.proofs.SlotDrops.{OneSlot, slots_same, others_same, heap_kept, records_kept}
 
@@ -55,6 +59,42 @@ had_record old new place bytes low no_ r =
     some_is (record_at old.page place) _
     (record_slot old.page place low no_ ∙ formed (page_of place) page (slot_of place) r.form ∙ used_record page (slot_of place) (used_below page (slot_of place) r.was_used) (used_from page (slot_of place) r.was_used))
 
+-- ---- the chains of other places
+
+chain_step : (pages new : ℕ → List ℕ) (most first : ℕ) → new first ≡ pages first → ((n : ℕ) → chain_at most new n ≡ chain_at most pages n) → chain_at (suc most) new first ≡ chain_at (suc most) pages first
+unfolding chain_at
+chain_step pages new most first same more =
+    λ i. if is_overflow_page first (same i)
+         then (if next_in (same i) == 0 then Some (piece_in (same i)) else with_piece (same i) (more (next_in (same i)) i))
+         else None
+
+-- no chain begins at a record page
+none_at : (pages : ℕ → List ℕ) (number first most : ℕ) → is_record_page number (pages number) ≡ true → first ≡ number → chain_at most pages first ≡ None
+none_at pages number first most form here =
+    chain_unformed most pages first
+    (false_from_ne_true (is_overflow_page first (pages first)) (λ over. overflow_not_record first number (pages first) over (subst (λ (n : ℕ). is_record_page number (pages n) ≡ true) (sym here) form)))
+
+-- a chain is the same where only a record page changed, which is one still
+chain_equal : (number : ℕ) (pages new : ℕ → List ℕ) → is_record_page number (pages number) ≡ true → is_record_page number (new number) ≡ true → ((n : ℕ) → n ≢ number → new n ≡ pages n)
+    → (most first : ℕ) → chain_at most new first ≡ chain_at most pages first
+chain_equal number pages new was is others zero first = none_at_0 new first ∙ sym (none_at_0 pages first)
+chain_equal number pages new was is others (suc most) first =
+    elim (cases_eq first number) [
+      | inr away ↦ chain_step pages new most first (others first away) (chain_equal number pages new was is others most)
+      | inl here ↦ none_at new number first (suc most) is here ∙ sym (none_at pages number first (suc most) was here)
+    ]
+
+chains_same : (old new : PagesView) (number other : ℕ) → is_record_page number (old.page number) ≡ true → is_record_page number (new.page number) ≡ true → ((n : ℕ) → n ≢ number → new.page n ≡ old.page n)
+    → is_chain other ≡ true → record_at new.page other ≡ record_at old.page other
+chains_same old new number other was is others chain =
+    elim (cases_lt (page_of other) 4294967296) [
+      | inl low ↦
+          record_chain new.page other low chain ∙ ap (λ (o : Option (List ℕ)). long_enough o) (chain_equal number old.page new.page was is others 17 (page_of other)) ∙ sym (record_chain old.page other low chain)
+      | inr past ↦ far new.page other past ∙ sym (far old.page other past)
+    ]
+
+-- ---- all that is left
+
 pub replaces : (old new : PagesView) (place : ℕ) (bytes : List ℕ) → page_of place < 4294967296 → is_chain place ≡ false → HasReplaced (page_of place) (slot_of place) bytes old new → Replaces old new place bytes
 replaces old new place bytes low no_ r =
     let number = page_of place in
@@ -72,7 +112,10 @@ replaces old new place bytes low no_ r =
       pages = mine ∙ sym (pages_slot old.page place no_);
       form = r.replaced.form;
       stays = r.others;
-      slots = λ other slotted differs. slots_same number (slot_of place) place old new other o (false_from_ne_true (is_chain other) slotted) differs;
+      rest = λ other differs. elim (cases_Bool (is_chain other)) [
+        | inl chain ↦ chains_same old new number other r.form r.replaced.form r.others chain
+        | inr slotted ↦ slots_same number (slot_of place) place old new other o slotted differs
+      ];
       first = r.free;
       fresh = r.fresh;
       heap = λ current free heap. heap_kept number current old new free r.form r.others r.free r.fresh heap;

@@ -110,8 +110,8 @@ pub record Replaces (old new : PagesView) (place : ℕ) (bytes : List ℕ) : Typ
   pub pages : pages_of new.page place ≡ pages_of old.page place
   pub form : is_record_page (page_of place) (new.page (page_of place)) ≡ true
   pub stays : (n : ℕ) → n ≢ page_of place → new.page n ≡ old.page n
-  -- the used slots are those of before, each other one with the record that it had
-  pub slots : (other : ℕ) → (IsTrue (is_chain other) → ⊥) → other ≢ place → record_at new.page other ≡ record_at old.page other
+  -- each other place has the record that it had, and none where it had none
+  pub rest : (other : ℕ) → other ≢ place → record_at new.page other ≡ record_at old.page other
   -- no page is taken or given, and what was supposed still holds
   pub first : new.free ≡ old.free
   pub fresh : new.fresh ≡ old.fresh
