@@ -1,5 +1,5 @@
 -- What is supposed of pages that hold records, and what a put and a drop then make of the records.
-use Rattle.std.specs.Prelude.{◌≡◌, ◌≢◌, ◌≤◌, ◌<◌, ◌+◌, ◌-◌, ◌^◌, ◌⊎◌, ℕ, true, false, IsTrue, List, [], ◌∷◌, length, Some, None, Result, Err}
+use Rattle.std.specs.Prelude.{◌≡◌, ◌≢◌, ◌≤◌, ◌<◌, ◌+◌, ◌-◌, ◌^◌, ◌⊎◌, ℕ, true, false, IsTrue, List, [], ◌∷◌, length, Some, None, Result, Err, IsSome}
 use Rattle.gaz_page.specs.declared.pages.PageFault.{PageFault}
 use Rattle.gaz_page.specs.declared.pages.PageFault.TheVariants.{Damaged}
 use Rattle.gaz_page.specs.Free.{free_link}
@@ -8,6 +8,7 @@ use Rattle.gaz_page.specs.Chains.{Each, Among, InUse, IsTakenSince, IsFreeChain}
 use Rattle.gaz_slots.specs.Overflow.{is_overflow_page}
 use Rattle.gaz_slots.specs.RecordPage.{is_record_page, is_used, slot_record}
 use Rattle.gaz_heap.specs.Place.{record_at, pages_of, page_of, slot_of, is_chain}
+use Rattle.gaz_heap.specs.Heap.{HasNoRoom}
 
 -- what is supposed of the pages: these are free, and the page for new records, if there is one, was taken once
 pub record IsHeap (v : PagesView) (current : ℕ) (free : List ℕ) : Type 0 where
@@ -97,6 +98,33 @@ pub record Drops (old new : PagesView) (current : ℕ) (free : List ℕ) (place 
   pub slots : (other : ℕ) → (IsTrue (is_chain other) → ⊥) → other ≢ place → record_at new.page other ≡ record_at old.page other
   -- the page for new records stays one
   pub records : IsForRecords old current → IsForRecords new current
+
+-- what a record that is put in place of the one at a place makes of pages
+pub record Replaces (old new : PagesView) (place : ℕ) (bytes : List ℕ) : Type 0 where
+  -- the place is one of a slot, and has this record where it had another
+  pub slotted : IsTrue (is_chain place) → ⊥
+  pub had : IsSome (record_at old.page place)
+  pub has : record_at new.page place ≡ Some bytes
+  -- where it is spoken of, it is so still, as all other places
+  pub holds : (earlier : List ℕ) → Holds old place earlier → Holds new place bytes
+  pub others : (other : ℕ) (earlier : List ℕ) → Holds old other earlier → other ≢ place → StillHolds old new other earlier
+  -- its page is a record page still, and all other pages stay
+  pub pages : pages_of new.page place ≡ pages_of old.page place
+  pub form : is_record_page (page_of place) (new.page (page_of place)) ≡ true
+  pub stays : (n : ℕ) → n ≢ page_of place → new.page n ≡ old.page n
+  -- each other place has the record that it had, and none where it had none
+  pub rest : (other : ℕ) → other ≢ place → record_at new.page other ≡ record_at old.page other
+  -- no page is taken or given, and what was supposed still holds
+  pub first : new.free ≡ old.free
+  pub fresh : new.fresh ≡ old.fresh
+  pub heap : (current : ℕ) (free : List ℕ) → IsHeap old current free → IsHeap new current free
+  -- the page for new records stays one
+  pub records : (current : ℕ) → IsForRecords old current → IsForRecords new current
+
+-- A record isn't put in place of the one at a place: the place stands for a chain, or the record is too long for a record page, or it is longer
+-- than the one in the slot, and the page has no room for it even without that one and packed.
+abbrev pub IsRefused : PagesView → ℕ → List ℕ → Type 0
+IsRefused v place bytes = IsTrue (is_chain place) ⊎ ((4076 < length bytes) ⊎ HasNoRoom (page_of place) (slot_of place) bytes (v.page (page_of place)))
 
 -- what was given by now of the pages of a chain, `whole`; these are left
 pub record Given (old now : PagesView) (free whole left : List ℕ) : Type 0 where

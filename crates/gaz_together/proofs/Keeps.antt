@@ -1,7 +1,7 @@
 -- What is left of a tree after a call on records, and of records after a call on the tree.
 use Rattle.std.proofs.Common.{◌≡◌, ◌≢◌, ◌≤◌, ◌<◌, ◌-◌, ◌^◌, ◌⊎◌, ℕ, zero, suc, true, false, List, length, [], ◌∷◌, Some, None, refl, sym, ap, ◌∙◌, subst, arith, inl, inr}
 use Rattle.std.specs.Prelude.{IsSome, slice_index, Option, ◌==◌, ◌&&◌, nat_le}
-use Rattle.std.proofs.lemmas.Bool.{cases_Bool, cases_lt, and_parts, eqb-true}
+use Rattle.std.proofs.lemmas.Bool.{cases_Bool, cases_lt, and_parts, eqb-true, false_from_ne_true}
 use Rattle.gaz_page.specs.Root.{number_at}
 use Rattle.gaz_page.specs.Free.{free_link, short_at}
 use Rattle.gaz_heap.proofs.LongPuts.{each_at}
@@ -23,8 +23,9 @@ use Rattle.gaz_heap.specs.Chain.{chain_pages}
 use Rattle.gaz_slots.proofs.PageKinds.{free_not_record, free_not_overflow}
 use Rattle.gaz_slots.proofs.Recorded.{unformed}
 use Rattle.gaz_heap.proofs.Holds.{each_formed, each_more, chain_of, record_slot, far, pages_chain, pages_slot, holds_still, nothing}
+use Rattle.gaz_heap.proofs.StoredPuts.{free_still, free_differ}
 use Rattle.gaz_page.specs.Chains.{Each, Among, InUse, IsFreeChain}
-use Rattle.gaz_heap.specs.Facts.{Holds, StillHolds, IsHeap, IsForRecords, MayHold, Puts, Drops}
+use Rattle.gaz_heap.specs.Facts.{Holds, StillHolds, IsHeap, IsForRecords, MayHold, Puts, Drops, Replaces}
 use Rattle.gaz_slots.proofs.Form.{form_says}
 
 no_three : (kind : Kind) → kind_byte kind ≢ 3
@@ -162,9 +163,26 @@ tree_after_drop old new tree pairs current free bytes place s heap holds drops =
     (λ n reach. drops.stays n (λ among. not_of_tree old tree pairs n s (each_at (HasRecords old.page) (pages_of old.page place) n (each_kind old place bytes holds) among) reach))
     (omega (arith, drops.fresh)) drops.heap.chain
 
-some_of : (o : Option ℕ) → IsSome o → (x : ℕ) × (o ≡ Some x)
+some_of : {T : Type 0} (o : Option T) → IsSome o → (x : T) × (o ≡ Some x)
 some_of None s = absurd cc
 some_of (Some x) s = (x, refl)
+
+as_free : (v : PagesView) (first : ℕ) (ns : List ℕ) → first_of ns ≡ first → IsChain v.page v.fresh ns → IsFreeChain v first ns
+as_free v first [] is chain = sym is
+as_free v first (n ∷ ns) is chain = (sym is, (omega (arith, chain.0), chain.1), (first_of ns, chain.2, as_free v (first_of ns) ns refl chain.3))
+
+pub tree_after_replace : (old new : PagesView) (tree : Tree) (pairs : List Pair) (place : ℕ) (bytes : List ℕ) → Stands old tree pairs → Replaces old new place bytes → Stands new tree pairs
+tree_after_replace old new tree pairs place bytes s r =
+    let number = page_of place in
+    let had = some_of (record_at old.page place) r.had in
+    let form = slot_formed old place had.0 (false_from_ne_true (is_chain place) r.slotted) had.1 in
+    let grows : old.fresh ≤ new.fresh = omega (arith, r.fresh) in
+    let chain = as_free old old.free s.chain.frees s.chain.first s.chain.chain in
+    let apart = free_differ old number old.free s.chain.frees form chain in
+    let still = free_still old new old.free s.chain.frees grows chain (each_more (λ n. n ≢ number) (λ n. new.page n ≡ old.page n) s.chain.frees r.stays apart) in
+    stands_still old new tree pairs s.chain.frees s
+    (λ n reach. r.stays n (λ is. not_of_tree old tree pairs n s (inl (subst (λ (m : ℕ). is_record_page m (old.page m) ≡ true) (sym is) form)) reach))
+    grows (subst (λ (first : ℕ). IsFreeChain new first s.chain.frees) (sym r.first) still)
 
 not_spare : (v : PagesView) (n : ℕ) → HasRecords v.page n → n < v.fresh → IsSpare v n → ⊥
 not_spare v n kind below (inr past) = omega (arith, below, past)
@@ -182,10 +200,6 @@ record_after_key old new tree pairs place bytes s changes holds =
     (each_more (λ n. InUse old n × HasRecords old.page n) (λ n. new.page n ≡ old.page n) (pages_of old.page place)
     (λ n both. changes.others n (not_of_tree old tree pairs n s both.1) (not_spare old n both.1 both.0.1))
     (each_both (InUse old) (HasRecords old.page) (pages_of old.page place) holds.pages (each_kind old place bytes holds)))
-
-as_free : (v : PagesView) (first : ℕ) (ns : List ℕ) → first_of ns ≡ first → IsChain v.page v.fresh ns → IsFreeChain v first ns
-as_free v first [] is chain = sym is
-as_free v first (n ∷ ns) is chain = (sym is, (omega (arith, chain.0), chain.1), (first_of ns, chain.2, as_free v (first_of ns) ns refl chain.3))
 
 -- what the records suppose of the pages holds still
 pub heap_after_key : (old new : PagesView) (before after : Tree) (pairs now : List Pair) (current : ℕ) (free : List ℕ) → Stands old before pairs → IsHeap old current free → IsForRecords old current
