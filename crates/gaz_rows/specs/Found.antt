@@ -1,5 +1,5 @@
 -- What a look-up by a key finds, of the tree and the records alone.
-use Rattle.std.specs.Prelude.{◌≡◌, Bool, true, ℕ, List, [], Option, Some, None, IsSome, IsTrue, Contains, bytes_eq, option_and_then, Result, Ok, Err, if◌then◌else◌}
+use Rattle.std.specs.Prelude.{◌≡◌, ◌≤◌, ◌+◌, take, length, map, find, All, unwrap_or, count_by, Bool, true, ℕ, List, [], Option, Some, None, IsSome, IsTrue, Contains, bytes_eq, option_and_then, Result, Ok, Err, if◌then◌else◌}
 use Rattle.gaz_num.specs.Pieces.{column}
 use Rattle.gaz_num.specs.declared.words.Table.{Table}
 use Rattle.gaz_plain.specs.Gazetteer.{Gazetteer, lines_in}
@@ -13,6 +13,9 @@ use Rattle.gaz_scan.specs.declared.scan.Scan.{Scan}
 use Rattle.gaz_scan.specs.Scan.{Comes, IsGiven}
 use Rattle.gaz_rows.specs.declared.fault.AskFault.{AskFault}
 use Rattle.gaz_rows.specs.declared.fault.AskFault.TheVariants.{Failed}
+use Rattle.gaz_rows.specs.declared.codes.Look.{Look}
+use Rattle.gaz_rows.specs.declared.codes.Look.TheVariants.{Last, Found, Other}
+use Rattle.gaz_name.specs.Name.{first_bytes}
 use Rattle.gaz_keys.specs.Keys.{IsKey}
 use Rattle.gaz_keys.specs.Parts.{tag_of, has_place}
 use Rattle.gaz_keys.specs.Lines.{key_at}
@@ -78,3 +81,39 @@ pub record IsLineOf (gaz : Gazetteer) (key line : List ℕ) : Type 0 where
 abbrev pub OverPlace : PagesView → Root → ℕ → (Gazetteer → List ℕ → Type 0) → Type 0
 OverPlace v root place P =
     IsTrue v.is_told → (waiting : List (List ℕ)) (gaz : Gazetteer) → IsStoreBut waiting gaz v root → (key : List ℕ) → IsPlaceOf v root key place → P gaz key
+
+-- the records at the places of these pairs
+abbrev pub records_of : (ℕ → List ℕ) → List Pair → List (List ℕ)
+records_of pages pairs = map (λ pair. unwrap_or (record_at pages pair.value) []) pairs
+
+-- A record stands at the place of each.
+abbrev pub HaveRecords : (ℕ → List ℕ) → List Pair → Type 0
+HaveRecords pages pairs = All (λ pair. IsSome (record_at pages pair.value)) pairs
+
+-- the first of these records whose first column is the code
+abbrev pub coded_in : List ℕ → (ℕ → List ℕ) → List Pair → Option (List ℕ)
+coded_in code pages pairs = find (has_code code) (records_of pages pairs)
+
+-- So many pairs are given, without the code, and the others are still to come.
+pub record ArePassed (turns : ℕ) (code : List ℕ) (old new : ℕ → List ℕ) (scan : Scan) (left : List Pair) : Type 0 where
+  pub rest : List Pair
+  pub comes : Comes new scan rest
+  pub have : HaveRecords new rest
+  pub same : coded_in code new rest ≡ coded_in code old left
+  pub count : length left ≡ turns + length rest
+
+-- What a look at the next pair comes to: none was left, the line with the code, or another line.
+abbrev pub Looks : List ℕ → (ℕ → List ℕ) → (ℕ → List ℕ) → Scan → List ℕ → List Pair → Result Look AskFault → Type 0
+Looks code old new scan buf left (Ok Last) = coded_in code old left ≡ None
+Looks code old new scan buf left (Ok (Found size)) = coded_in code old left ≡ Some (take size buf)
+Looks code old new scan buf left (Ok Other) = ArePassed 1 code old new scan left
+Looks code old new scan buf left (Err fault) = IsSound fault
+
+-- P holds of the pairs that a scan has still to give, where records stand at their places, and there are no more than so many.
+abbrev pub OverRange : ℕ → PagesView → Scan → (List Pair → Type 0) → Type 0
+OverRange most v scan P =
+    IsTrue v.is_told → (left : List Pair) → Comes v.page scan left → HaveRecords v.page left → length left ≤ most → P left
+
+-- how many codes have the same first bytes as this one
+abbrev pub like_codes : Gazetteer → List ℕ → ℕ
+like_codes gaz code = count_by (λ line. bytes_eq (first_bytes 23 (column 1 line)) (first_bytes 23 code)) gaz.codes

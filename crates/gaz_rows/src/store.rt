@@ -36,7 +36,7 @@ fn first_four(code: &[u8]) -> [u8; 4]
 }
 
 /// Whether the first column of a line is the code.
-fn has_code(line: &[u8], code: &[u8]) -> bool
+pub(crate) fn has_code(line: &[u8], code: &[u8]) -> bool
     ensures { result ≡ is_coded code.now line.now }
 {
     field(line, 0).unwrap_or(&[]) == code
