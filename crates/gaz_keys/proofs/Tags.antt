@@ -1,12 +1,11 @@
 -- The tags of the keys of a line.
-use Rattle.std.proofs.Common.{◌≡◌, ◌<◌, ℕ, zero, suc, Bool, true, false, ◌^◌, List, [], ◌∷◌, ◌++◌, length, replicate, refl, subst, sym, ◌∙◌, ap, arith, inl, inr, Option, Some, None}
-use Rattle.std.specs.Prelude.{◌⊎◌, Contains, slice_index_or, All}
-use Rattle.std.specs.Int.{w32, to_be_bytes}
+use Rattle.std.proofs.Common.{◌≡◌, ◌<◌, ℕ, zero, suc, true, false, List, [], ◌∷◌, ◌++◌, length, refl, subst, arith, inl, inr, Option, Some, None}
+use Rattle.std.specs.Prelude.{◌⊎◌, Contains, slice_index_or}
 use Rattle.gaz_num.specs.declared.words.Table.{Table}
 use Rattle.gaz_num.specs.declared.words.Table.TheVariants.{Rows, Alternates, Links, Countries, Codes}
 use Rattle.gaz_keys.specs.Keys.{place_key, alternate_key, link_key, reverse_key, country_key, code_key, text_key, box_key, division_key, path_key}
 use Rattle.gaz_keys.specs.Parts.{tag_of, has_place}
-use Rattle.gaz_keys.specs.Lines.{key_at, more_keys, division_keys, division_level, named_key, ascii_key, lying_key, divided_key}
+use Rattle.gaz_keys.specs.Lines.{key_at, more_keys, division_keys, division_level, named_key, ascii_key, lying_key, divided_key, row_keys}
 
 -- what a list contains stands at its front or behind it
 pub contained : {X : Type 0} (x : X) (xs : List X) (y : X) → Contains (x ∷ xs) y → (x ≡ y) ⊎ Contains xs y
@@ -90,18 +89,26 @@ unfolding division_key
 division_placeless line None key has = none_of IsPlaceless key has
 division_placeless line (Some k) key has = one_of IsPlaceless _ [] key refl (none_of IsPlaceless) has
 
+-- what is among the keys of a row by where it lies
+pub in_row_keys : (P : List ℕ → Type 0) (line key : List ℕ) → P (lying_key line) → P (divided_key line) → ((other : List ℕ) → Contains (division_keys line (division_level line)) other → P other) → Contains (row_keys line) key → P key
+in_row_keys P line key lying divided divisions has = one_of P (lying_key line) _ key lying (by (division_level line) divisions) has
+  where
+    last : (other : List ℕ) → Contains (divided_key line ∷ []) other → P other
+    last other has = one_of P (divided_key line) [] other divided (none_of P) has
+
+    by : (level : Option ℕ) → ((other : List ℕ) → Contains (division_keys line level) other → P other) → (other : List ℕ) → Contains (division_keys line level ++ divided_key line ∷ []) other → P other
+    by None each other has = last other has
+    by (Some level) each other has = one_of P _ (divided_key line ∷ []) other (each _ (0, omega arith, refl)) last has
+
+-- what is among the keys of a row but its first
+pub in_more_keys : (P : List ℕ → Type 0) (line key : List ℕ) → P (named_key line) → P (ascii_key line) → P (lying_key line) → P (divided_key line) → ((other : List ℕ) → Contains (division_keys line (division_level line)) other → P other) → Contains (more_keys Rows line) key → P key
+in_more_keys P line key named ascii lying divided divisions has =
+    one_of P (named_key line) (ascii_key line ∷ row_keys line) key named (λ a. one_of P (ascii_key line) (row_keys line) a ascii (λ b. in_row_keys P line b lying divided divisions)) has
+
 -- no other key of a line has the tag of one with a place
 pub more_placeless : (table : Table) (line key : List ℕ) → Contains (more_keys table line) key → IsPlaceless key
 unfolding text_key box_key path_key reverse_key
-more_placeless Rows line key has =
-    let rest = division_keys line (division_level line) in
-    let path = divided_key line in
-    let lying = lying_key line in
-    let ascii = ascii_key line in
-    one_of IsPlaceless (named_key line) (ascii ∷ lying ∷ path ∷ rest) key refl
-    (λ a. one_of IsPlaceless ascii (lying ∷ path ∷ rest) a refl
-    (λ b. one_of IsPlaceless lying (path ∷ rest) b refl
-    (λ c. one_of IsPlaceless path rest c refl (division_placeless line (division_level line))))) has
+more_placeless Rows line key has = in_more_keys IsPlaceless line key refl refl refl refl (λ other. division_placeless line (division_level line) other) has
 more_placeless Alternates line key has = one_of IsPlaceless _ [] key refl (none_of IsPlaceless) has
 more_placeless Links line key has = one_of IsPlaceless _ [] key refl (none_of IsPlaceless) has
 more_placeless Countries line key has = none_of IsPlaceless key has

@@ -1,9 +1,11 @@
 -- The keys that a line has in the index.
-use Rattle.std.specs.Prelude.{ℕ, ◌*◌, ◌^◌, List, [], ◌∷◌, ◌++◌, pos, ◌+ℤ◌, nat_abs, Option, Some, None, if◌then◌else◌, unwrap_or}
+use Rattle.std.specs.Prelude.{◌≡◌, ◌≤◌, length, IsAscii, ℕ, ◌*◌, ◌^◌, List, [], ◌∷◌, ◌++◌, pos, ◌+ℤ◌, nat_abs, Option, Some, None, IsSome, if◌then◌else◌, unwrap_or}
 use Rattle.std.specs.List.{flat_map}
 use Rattle.gaz_num.specs.Numbers.{id_in, degrees_in}
 use Rattle.gaz_num.specs.Pieces.{column}
-use Rattle.gaz_num.specs.Check.{class_in}
+use Rattle.gaz_num.specs.Check.{class_in, reason_against, key_in}
+use Rattle.gaz_num.specs.declared.words.Kind.{Kind}
+use Rattle.gaz_num.specs.declared.words.Kind.TheVariants as kind
 use Rattle.gaz_num.specs.declared.words.Table.{Table}
 use Rattle.gaz_num.specs.declared.words.Table.TheVariants.{Rows, Alternates, Links, Countries, Codes}
 use Rattle.gaz_name.specs.Name.{name_key_of, first_bytes}
@@ -64,11 +66,50 @@ key_at Links slot line = link_key (id_at 2 line) (class_in (column 3 line)) (id_
 key_at Countries slot line = country_key (first_bytes 4 (column 1 line))
 key_at Codes slot line = code_key (first_bytes 23 (column 1 line)) slot
 
+-- the keys of a row by its names
+abbrev pub name_keys : List ℕ → List (List ℕ)
+name_keys line = named_key line ∷ ascii_key line ∷ []
+
+-- the keys of a row by where it lies
+abbrev pub row_keys : List ℕ → List (List ℕ)
+row_keys line = lying_key line ∷ division_keys line (division_level line) ++ divided_key line ∷ []
+
+-- the key of an alternate name by its text
+abbrev pub alternate_text_key : List ℕ → List ℕ
+alternate_text_key line = text_key (name_at 4 line) 2 (id_at 2 line) (id_at 1 line)
+
 -- the other keys of a line, whose value is 0
 abbrev pub more_keys : Table → List ℕ → List (List ℕ)
-more_keys Rows line =
-    named_key line ∷ ascii_key line ∷ lying_key line ∷ divided_key line ∷ division_keys line (division_level line)
-more_keys Alternates line = text_key (name_at 4 line) 2 (id_at 2 line) (id_at 1 line) ∷ []
+more_keys Rows line = name_keys line ++ row_keys line
+more_keys Alternates line = alternate_text_key line ∷ []
 more_keys Links line = reverse_key (id_at 1 line) (class_in (column 3 line)) (id_at 2 line) ∷ []
 more_keys Countries line = []
 more_keys Codes line = []
+
+-- all keys of a line
+abbrev pub keys_of : Table → ℕ → List ℕ → List (List ℕ)
+keys_of table slot line = key_at table slot line ∷ more_keys table line
+
+-- the kind of the lines that a table holds
+abbrev pub kind_of : Table → Kind
+kind_of Rows = kind.Row
+kind_of Alternates = kind.Alt
+kind_of Links = kind.Link
+kind_of Countries = kind.Country
+kind_of Codes = kind.Code
+
+-- A line that its check accepts, and that isn't a comment: it has a key in its table.
+pub record IsKeyed (table : Table) (line : List ℕ) : Type 0 where
+  pub accepted : reason_against (kind_of table) line ≡ None
+  pub keyed : IsSome (key_in (kind_of table) line)
+
+-- A text of at most 64 bytes of ASCII.
+pub record IsShort (text : List ℕ) : Type 0 where
+  pub ascii : IsAscii text
+  pub short : length text ≤ 64
+
+-- The names of a line are short, if it has any.
+abbrev pub HasShortNames : Table → List ℕ → Type 0
+HasShortNames Rows line = IsShort (column 2 line) × IsShort (column 3 line)
+HasShortNames Alternates line = IsShort (column 4 line)
+HasShortNames table line = Unit

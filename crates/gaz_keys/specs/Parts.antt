@@ -1,5 +1,5 @@
 -- The parts that stand in a key.
-use Rattle.std.specs.Prelude.{ℕ, Bool, ◌==◌, ◌||◌, nat_le, List, take, drop, slice_index, Option, Some, None, if◌then◌else◌}
+use Rattle.std.specs.Prelude.{ℕ, Bool, ◌==◌, ◌||◌, nat_le, List, take, drop, slice_index, Option, if◌then◌else◌}
 use Rattle.std.specs.Int.{w16, w32, w64, from_be_bytes}
 use Rattle.gaz_num.specs.Numbers.{some_if}
 use Rattle.gaz_tables.specs.declared.link.LinkClass.{LinkClass}

@@ -65,9 +65,17 @@ pub fn link_of(key: &[u8; 32]) -> Option<LinkKey>
     let class = class_by(key[5]);
     let (first, second) = (four_at(key, 1), four_at(key, 6));
     if key[0] == 3 {
-        Some(LinkKey { child: first, class, parent: second })
+        Some(LinkKey {
+            child: first,
+            class,
+            parent: second,
+        })
     } else {
-        Some(LinkKey { child: second, class, parent: first })
+        Some(LinkKey {
+            child: second,
+            class,
+            parent: first,
+        })
     }
 }
 

@@ -30,7 +30,8 @@ use Rattle.gaz_rows.specs.Index.{line_key, IsKeyOf}
 use Rattle.gaz_rows.specs.Stands.{value_in}
 use Rattle.gaz_rows.specs.Store.{IsStoreBut, IsAnswer, Answers, IsSound, IsSoundOver, ends_of}
 use Rattle.gaz_rows.specs.Found.{HaveRecords, OverRange, coded_in, has_code, like_codes, records_of}
-use Rattle.gaz_rows.proofs.Fit.{AreBytes, code_key_fits, first_size}
+use Rattle.gaz_keys.proofs.Fit.{first_size}
+use Rattle.gaz_rows.proofs.Fit.{AreBytes, code_key_fits}
 use Rattle.gaz_rows.proofs.Finding.{same_found, kept_in, mapped_from, mapped_in, IsApart, no_longer}
 use Rattle.gaz_rows.proofs.Members.{head_is_in}
 use Rattle.gaz_rows.proofs.Keyed.{some_inj}

@@ -2,7 +2,6 @@
 ghost use Rattle.std.specs.Prelude.{◌≡◌, ◌≤◌, ◌+◌, ◌*◌, ℕ, List, length, IsTrue, IfOk, IfErr};
 ghost use Rattle.gaz_num.specs.declared.words.Table.TheVariants.{Codes};
 ghost use Rattle.gaz_plain.specs.Gazetteer.{Gazetteer};
-ghost use Rattle.gaz_name.specs.Name.{first_bytes};
 ghost use Rattle.gaz_leaf.specs.Node.{Pair};
 ghost use Rattle.gaz_scan.specs.Scan.{Comes, tree_of};
 ghost use Rattle.gaz_rows.specs.Store.{Answers, HasAsked, IsAnswer, IsSoundOver, IsSound, IsStoreBut};
@@ -10,7 +9,7 @@ ghost use Rattle.gaz_rows.specs.Found.{Looks, OverRange, HaveRecords, coded_in, 
 
 use crate::fault::AskFault;
 use crate::store::{RowStore, has_code};
-use gaz_keys::code_key;
+use gaz_keys::code_key_of;
 use gaz_page::Pages;
 use gaz_scan::Scan;
 
@@ -22,16 +21,6 @@ pub(crate) enum Look {
     Found(usize),
     /// Another line.
     Other,
-}
-
-/// The first 23 bytes of a code, with zeros behind a shorter one.
-fn first_of(code: &[u8]) -> [u8; 23]
-    ensures { result ≡ first_bytes 23 code.now }
-{
-    let count = code.len().min(23);
-    let mut first = [0; 23];
-    first[..count].copy_from_slice(&code[..count]);
-    first
 }
 
 impl<P: Pages> RowStore<P> {
@@ -101,8 +90,7 @@ impl<P: Pages> RowStore<P> {
         ensures root { self.new.root ≡ self.old.root }
         ensures keeps { P.keeps self.old.pages self.new.pages }
     {
-        let first = first_of(code);
-        let mut scan = self.scan(code_key(&first, 0), code_key(&first, u32::MAX));
+        let mut scan = self.scan(code_key_of(code, 0), code_key_of(code, u32::MAX));
         self.find_code(&mut scan, code, buf)
     }
 }

@@ -1,7 +1,6 @@
 //! The five tables over pages, and the questions to them.
 ghost use Rattle.std.specs.Prelude.{◌≡◌, ◌≤◌, ◌+◌, ◌*◌, ℕ, List, ◌∷◌, [], length, IsTrue, IfOk, IfErr, IfSome, Some, take, IsSome};
 ghost use Rattle.gaz_num.specs.declared.words.Table.TheVariants.{Rows, Alternates, Countries};
-ghost use Rattle.gaz_name.specs.Name.{first_bytes};
 ghost use Rattle.gaz_heap.specs.Place.{record_at};
 ghost use Rattle.gaz_rows.specs.Store.{Answers, HasAsked, IsSoundOver, IsSound};
 ghost use Rattle.gaz_leaf.specs.Node.{Pair, key_of};
@@ -12,7 +11,7 @@ ghost use Rattle.gaz_rows.specs.Found.{Finds, FindsCoded, FailsSoundly, GivesNex
 
 use crate::fault::AskFault;
 use gaz_heap::get as get_record;
-use gaz_keys::{alternate_key, country_key, place_key};
+use gaz_keys::{alternate_key, country_key_of, place_key};
 use gaz_num::field;
 use gaz_page::{Pages, Root};
 use gaz_scan::Scan;
@@ -23,16 +22,6 @@ use gaz_tree::Tree;
 pub struct RowStore<P> {
     pub(crate) pages: P,
     pub(crate) root: Root,
-}
-
-/// The first four bytes of a code, with zeros behind a shorter one.
-fn first_four(code: &[u8]) -> [u8; 4]
-    ensures { result ≡ first_bytes 4 code.now }
-{
-    let count = code.len().min(4);
-    let mut first = [0; 4];
-    first[..count].copy_from_slice(&code[..count]);
-    first
 }
 
 /// Whether the first column of a line is the code.
@@ -172,7 +161,7 @@ impl<P: Pages> RowStore<P> {
         ensures root { self.new.root ≡ self.old.root }
         ensures keeps { P.keeps self.old.pages self.new.pages }
     {
-        self.get_coded(&country_key(&first_four(code)), code, buf)
+        self.get_coded(&country_key_of(code), code, buf)
     }
 
     /// The pairs of a closed range of keys, for `next`.
