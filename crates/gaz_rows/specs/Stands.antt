@@ -46,28 +46,28 @@ pub data Use : Type 0 where
   -- nothing now
   free : Use
 
--- Some line stands in a slot of the page, or the page is the one for new records.
-abbrev pub HasSlots : ℕ → List ℕ → ℕ → Type 0
-HasSlots heap places page = ((slot : ℕ) × (slot < 65535) × Contains places (page * 65536 + slot)) ⊎ ((page ≡ heap) × (heap ≢ 0))
+-- Some line stands in a slot of the page, or the page is one of those that are kept for new records.
+abbrev pub HasSlots : List ℕ → List ℕ → ℕ → Type 0
+HasSlots kept places page = ((slot : ℕ) × (slot < 65535) × Contains places (page * 65536 + slot)) ⊎ (Contains kept page × (page ≢ 0))
 
--- The page is for that, where lines stand at these places and these pages are free.
-abbrev pub IsFor : (ℕ → List ℕ) → Root → List ℕ → List ℕ → Use → ℕ → Type 0
-IsFor pages root places frees tree page = Reaches pages (root.height - 1) root.top page
-IsFor pages root places frees slots page = HasSlots root.heap places page
-IsFor pages root places frees (chain place) page = Contains places place × IsTrue (is_chain place) × Contains (pages_of pages place) page
-IsFor pages root places frees free page = Contains frees page
+-- The page is for that, where lines stand at these places, these pages are kept for new records, and these are free.
+abbrev pub IsFor : (ℕ → List ℕ) → Root → List ℕ → List ℕ → List ℕ → Use → ℕ → Type 0
+IsFor pages root kept places frees tree page = Reaches pages (root.height - 1) root.top page
+IsFor pages root kept places frees slots page = HasSlots kept places page
+IsFor pages root kept places frees (chain place) page = Contains places place × IsTrue (is_chain place) × Contains (pages_of pages place) page
+IsFor pages root kept places frees free page = Contains frees page
 
--- Each page from 1 to below the least that was never taken is for one thing, and no other page is for anything.
-pub record AreUsedOnce (pages : ℕ → List ℕ) (root : Root) (places : List ℕ) : Type 0 where
+-- Each page from 1 to below the least that was never taken is for one thing, and no other page is for anything. Page 0 is kept for none.
+pub record AreUsedOnce (pages : ℕ → List ℕ) (root : Root) (kept places : List ℕ) : Type 0 where
   -- the free pages, in their chain
   pub frees : List ℕ
   pub free_chain : IsFreeChain pages root.free frees
-  pub used : (page : ℕ) → 1 ≤ page → page < root.fresh → (what : Use) × IsFor pages root places frees what page
-  pub once : (page : ℕ) (one other : Use) → IsFor pages root places frees one page → IsFor pages root places frees other page → one ≡ other
-  pub in_range : (page : ℕ) (what : Use) → IsFor pages root places frees what page → (1 ≤ page) × (page < root.fresh)
+  pub used : (page : ℕ) → 1 ≤ page → page < root.fresh → (what : Use) × IsFor pages root kept places frees what page
+  pub once : (page : ℕ) (one other : Use) → IsFor pages root kept places frees one page → IsFor pages root kept places frees other page → one ≡ other
+  pub in_range : (page : ℕ) (what : Use) → IsFor pages root kept places frees what page → (1 ≤ page) × (page < root.fresh)
   -- Pages with slots are record pages in form, and their used slots are places of lines.
-  pub in_form : (page : ℕ) → HasSlots root.heap places page → is_record_page page (pages page) ≡ true
-  pub no_more : (page slot : ℕ) → HasSlots root.heap places page → IsTrue (is_used (pages page) slot) → Contains places (page * 65536 + slot)
+  pub in_form : (page : ℕ) → HasSlots kept places page → is_record_page page (pages page) ≡ true
+  pub no_more : (page slot : ℕ) → HasSlots kept places page → IsTrue (is_used (pages page) slot) → Contains places (page * 65536 + slot)
 
 -- Pages and a root stand for a gazetteer, but for keys without a place that wait to be put into the tree.
 pub record StandsForBut (waiting : List (List ℕ)) (gaz : Gazetteer) (pages : ℕ → List ℕ) (root : Root) : Type 0 where
@@ -81,7 +81,7 @@ pub record StandsForBut (waiting : List (List ℕ)) (gaz : Gazetteer) (pages : �
   pub placeless : All (λ key. has_place (tag_of key) ≡ false) waiting
   pub slots : Slots
   pub indexed : IsIndexed slots gaz (value_in waiting pairs) (record_at pages)
-  pub used_once : AreUsedOnce pages root (places_in pairs)
+  pub used_once : AreUsedOnce pages root (root.heap ∷ []) (places_in pairs)
 
 -- Pages and a root stand for a gazetteer.
 abbrev pub StandsFor : Gazetteer → (ℕ → List ℕ) → Root → Type 0

@@ -11,10 +11,7 @@ use Rattle.gaz_rows.specs.declared.fault.AskFault.TheVariants as ask
 use Rattle.gaz_rows.specs.declared.fault.StepFault.{StepFault}
 use Rattle.gaz_rows.specs.declared.fault.StepFault.TheVariants as step
 use Rattle.gaz_rows.specs.Stands.{StandsForBut}
-
--- the root with the least page never taken and the first free one as the pages have them
-abbrev pub ends_of : PagesView → Root → Root
-ends_of v root = record root { fresh = v.fresh; free = v.free }
+use Rattle.gaz_rows.specs.Laid.{ends_of}
 
 -- The pages and the root stand for a gazetteer, but for the keys that wait.
 abbrev pub IsStoreBut : List (List ℕ) → Gazetteer → PagesView → Root → Type 0
