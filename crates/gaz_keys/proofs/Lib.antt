@@ -7,3 +7,4 @@ pub mod NameBytes
 pub mod KeysFit
 pub mod Fronts
 pub mod RowKeys
+mod Examples

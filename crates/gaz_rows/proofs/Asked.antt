@@ -15,7 +15,9 @@ use Rattle.gaz_num.specs.declared.words.Table.{Table}
 use Rattle.gaz_num.specs.declared.words.Table.TheVariants.{Countries}
 use Rattle.gaz_plain.specs.Gazetteer.{Gazetteer, IsLine, line_with, key_of, key_cmp, kind_in, lines_in}
 use Rattle.gaz_heap.specs.Place.{record_at}
-use Rattle.gaz_leaf.specs.Node.{key_of as number_of}
+use Rattle.gaz_leaf.specs.Node.{Pair, key_of as number_of}
+use Rattle.gaz_scan.specs.declared.scan.Scan.{Scan}
+use Rattle.gaz_scan.specs.Scan.{Gives}
 use Rattle.gaz_tree.specs.Pairs.{lookup}
 use Rattle.gaz_tree.specs.Calls.{IsGot}
 use Rattle.gaz_keys.specs.Keys.{country_key}
@@ -23,9 +25,14 @@ use Rattle.gaz_name.specs.Name.{first_bytes}
 use Rattle.gaz_rows.specs.declared.fault.AskFault.{AskFault}
 use Rattle.gaz_rows.specs.Faults.{fault_of}
 use Rattle.gaz_rows.specs.Index.{Slots}
+<<<<<<< HEAD
 use Rattle.gaz_rows.specs.Store.{IsStoreBut, IsAnswer, Answers, IsSoundOver, IsSound}
 use Rattle.gaz_rows.specs.Laid.{ends_of}
 use Rattle.gaz_rows.specs.Found.{Finds, FindsCoded, FailsSoundly, if_coded, has_code}
+=======
+use Rattle.gaz_rows.specs.Store.{IsStoreBut, IsAnswer, Answers, IsSoundOver, IsSound, ends_of}
+use Rattle.gaz_rows.specs.Found.{Finds, FindsCoded, FailsSoundly, GivesNext, if_coded, has_code}
+>>>>>>> 6f337a5b968f26cfc5da011d6411555dd37da142
 use Rattle.gaz_rows.proofs.Fit.{AreBytes}
 use Rattle.gaz_rows.proofs.Got.{IsKeyFor, IsKeyAlone, has_key, line_found, line_found_alone, line_at_key, record_there}
 use Rattle.gaz_rows.proofs.KeysFor.{country_key_for, country_code}
@@ -86,3 +93,9 @@ pub country_answered : {E : Type 0} (code : List ℕ) (bytes : AreBytes code) (v
 country_answered code bytes v root made buf (Ok found) is finds =
     λ told waiting gaz stands. country_found code bytes v root waiting gaz stands buf found told (subst (λ k. FindsCoded k code v root buf found) is finds)
 country_answered code bytes v root made buf (Err fault) is finds = tt
+
+-- a scan of which a call failed
+pub next_failed : (old new : ℕ → List ℕ) (scan : Scan) (left : List Pair) (fault : PageFault) (out : AskFault) → Gives old new scan left (Err fault) → out ≡ fault_of fault → GivesNext old new scan left (Err out)
+next_failed old new scan left page.Failed out gives is = subst (λ o. GivesNext old new scan left (Err o)) (sym is) gives
+next_failed old new scan left (page.Damaged number) out gives is = absurd gives
+next_failed old new scan left page.Memory out gives is = absurd gives

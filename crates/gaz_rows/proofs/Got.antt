@@ -122,6 +122,21 @@ module _ (waiting : List (List ℕ)) (gaz : Gazetteer) (pages : ℕ → List ℕ
   pub value_is : (key : List ℕ) → has_place (tag_of key) ≡ true → value_in waiting stands.pairs key ≡ lookup (number_of key) stands.pairs
   value_is key has = ap (λ b. if b then Some 0 else lookup (number_of key) stands.pairs) (not_waiting waiting key stands.placeless has)
 
+  -- Where the tree has a place for a key with the tag of a table, a line of the table stands there.
+  pub line_at_tag : (table : Table) (key : List ℕ) → IsKey key → tag_of key ≡ tag_for table → (place : ℕ) → lookup (number_of key) stands.pairs ≡ Some place → IsLineAt stands.slots gaz pages table key place
+  line_at_tag table key fits tag place is =
+      let here : value_in waiting stands.pairs key ≡ Some place = value_is key (ap has_place tag ∙ tag_has_place table) ∙ is in
+      let that : IsThatOf stands.slots gaz table key = that_of stands.slots gaz table key tag (stands.indexed.only key fits (rw here refl)) in
+      record {
+        line = that.line;
+        there = that.there;
+        is = that.is;
+        stands =
+            sym (ap (option_and_then (record_at pages)) here)
+            ∙ ap (λ k. option_and_then (record_at pages) (value_in waiting stands.pairs k)) (sym that.is)
+            ∙ stands.indexed.lines table that.line that.there;
+      }
+
   module _ (table : Table) (asked key : List ℕ) (is_for : IsKeyFor stands.slots table asked key) where
     has : has_place (tag_of key) ≡ true
     has = ap has_place is_for.tag ∙ tag_has_place table
@@ -140,18 +155,8 @@ module _ (waiting : List (List ℕ)) (gaz : Gazetteer) (pages : ℕ → List ℕ
         found_alone stands.slots gaz (value_in waiting stands.pairs) (record_at pages) stands.indexed table each asked key is_for alone (value_in waiting stands.pairs key) refl
         ∙ ap (option_and_then (record_at pages)) (value_is key has)
 
-    -- Where the tree has a place for the key, a line of the table stands there.
     pub line_at_key : (place : ℕ) → lookup (number_of key) stands.pairs ≡ Some place → IsLineAt stands.slots gaz pages table key place
-    line_at_key place is =
-        let here : value_in waiting stands.pairs key ≡ Some place = value_is key has ∙ is in
-        let that = that_line stands.slots gaz (value_in waiting stands.pairs) (record_at pages) stands.indexed table each asked key is_for place here in
-        let there = stands_there stands.slots gaz (value_in waiting stands.pairs) (record_at pages) stands.indexed table each asked key is_for place here in
-        record {
-          line = that.line;
-          there = that.there;
-          is = that.is;
-          stands = sym (ap (option_and_then (record_at pages)) here) ∙ there;
-        }
+    line_at_key = line_at_tag table key is_for.fits is_for.tag
 
     -- so a record does
     pub record_there : (place : ℕ) → lookup (number_of key) stands.pairs ≡ Some place → IsSome (record_at pages place)

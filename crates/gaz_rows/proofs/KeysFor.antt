@@ -17,23 +17,9 @@ use Rattle.gaz_keys.specs.Parts.{tag_of}
 use Rattle.gaz_keys.specs.Lines.{id_at}
 use Rattle.gaz_keys.proofs.Made.{places_differ, alternates_differ}
 use Rattle.gaz_rows.specs.Index.{Slots}
+use Rattle.gaz_keys.proofs.Fit.{id_small}
 use Rattle.gaz_rows.proofs.Fit.{AreBytes, no_comment, place_key_fits, alternate_key_fits, country_key_fits}
 use Rattle.gaz_rows.proofs.Got.{IsKeyFor, IsKeyAlone}
-
--- an id has four bytes
-pub id_small : (n : ℕ) (line : List ℕ) → id_at n line < 2 ^ 32
-id_small n line = by (is_digits 10 text && nat_le value (2 ^ 32 - 1)) refl
-  where
-    text : List ℕ
-    text = column n line
-    value : ℕ
-    value = digits_value 10 text
-    positive : (b : Bool) → value < 2 ^ 32 → unwrap_or (some_if b value) 0 < 2 ^ 32
-    positive true below = below
-    positive false below = omega arith
-    by : (b : Bool) → (is_digits 10 text && nat_le value (2 ^ 32 - 1)) ≡ b → unwrap_or (option_and_then (λ m. some_if (nat_lt 0 m) m) (some_if b value)) 0 < 2 ^ 32
-    by true is = let below = leb-true value (2 ^ 32 - 1) (and_right (is_digits 10 text) (nat_le value (2 ^ 32 - 1)) is) in positive (nat_lt 0 value) (omega (arith, below))
-    by false is = omega arith
 
 -- the id of a line that has it as its key
 id_of_keyed : (id : ℕ) (found : Option ℕ) → unwrap_or (option_map (λ n. n ∷ []) found) [] ≡ id ∷ [] → unwrap_or found 0 ≡ id

@@ -1,16 +1,20 @@
 //! The five tables over pages, and the questions to them.
-ghost use Rattle.std.specs.Prelude.{◌≡◌, ◌≤◌, ◌+◌, ◌∷◌, [], length, IsTrue, IfOk, IfErr, IfSome, Some, take, IsSome};
+ghost use Rattle.std.specs.Prelude.{◌≡◌, ◌≤◌, ◌+◌, ◌*◌, ℕ, List, ◌∷◌, [], length, IsTrue, IfOk, IfErr, IfSome, Some, take, IsSome};
 ghost use Rattle.gaz_num.specs.declared.words.Table.TheVariants.{Rows, Alternates, Countries};
-ghost use Rattle.gaz_name.specs.Name.{first_bytes};
 ghost use Rattle.gaz_heap.specs.Place.{record_at};
 ghost use Rattle.gaz_rows.specs.Store.{Answers, HasAsked, IsSoundOver, IsSound};
-ghost use Rattle.gaz_rows.specs.Found.{Finds, FindsCoded, FailsSoundly, has_code as is_coded};
+ghost use Rattle.gaz_leaf.specs.Node.{Pair, key_of};
+ghost use Rattle.gaz_tree.specs.Tree.{IsTop};
+ghost use Rattle.gaz_scan.specs.Ranges.{between};
+ghost use Rattle.gaz_scan.specs.Scan.{Comes, tree_of};
+ghost use Rattle.gaz_rows.specs.Found.{Finds, FindsCoded, FailsSoundly, GivesNext, OverPlace, IsLineOf, has_code as is_coded};
 
 use crate::fault::AskFault;
 use gaz_heap::get as get_record;
-use gaz_keys::{alternate_key, country_key, place_key};
+use gaz_keys::{alternate_key, country_key_of, place_key};
 use gaz_num::field;
 use gaz_page::{Pages, Root};
+use gaz_scan::Scan;
 use gaz_tree::Tree;
 
 /// The five tables over pages. It stands for a gazetteer where its pages and its root do.
@@ -20,18 +24,8 @@ pub struct RowStore<P> {
     pub(crate) root: Root,
 }
 
-/// The first four bytes of a code, with zeros behind a shorter one.
-fn first_four(code: &[u8]) -> [u8; 4]
-    ensures { result ≡ first_bytes 4 code.now }
-{
-    let count = code.len().min(4);
-    let mut first = [0; 4];
-    first[..count].copy_from_slice(&code[..count]);
-    first
-}
-
 /// Whether the first column of a line is the code.
-fn has_code(line: &[u8], code: &[u8]) -> bool
+pub(crate) fn has_code(line: &[u8], code: &[u8]) -> bool
     ensures { result ≡ is_coded code.now line.now }
 {
     field(line, 0).unwrap_or(&[]) == code
@@ -167,6 +161,45 @@ impl<P: Pages> RowStore<P> {
         ensures root { self.new.root ≡ self.old.root }
         ensures keeps { P.keeps self.old.pages self.new.pages }
     {
-        self.get_coded(&country_key(&first_four(code)), code, buf)
+        self.get_coded(&country_key_of(code), code, buf)
+    }
+
+    /// The pairs of a closed range of keys, for `next`.
+    pub fn scan(&self, low: [u8; 32], high: [u8; 32]) -> Scan
+        ensures comes { (pages : ℕ → List ℕ) (pairs : List Pair) → IsTop pages self.now.root.height self.now.root.top pairs
+            → Comes pages result (between (key_of low) (key_of high) pairs) }
+        ensures top { (tree_of result).top ≡ self.now.root.top }
+        ensures height { (tree_of result).height ≡ self.now.root.height }
+    {
+        Scan::over(self.tree(), low, high)
+    }
+
+    /// The next key of a scan with its value, or `None` behind the last. The pages have to be as they were when the scan began.
+    pub fn next(&mut self, scan: &mut Scan) -> Result<Option<([u8; 32], u64)>, AskFault>
+        ensures gives { IsTrue (P.view self.old.pages).is_told → (left : List Pair) → Comes (P.view self.old.pages).page scan.old left
+            → GivesNext (P.view self.old.pages).page (P.view self.new.pages).page scan.new left result }
+        ensures tree { tree_of scan.new ≡ tree_of scan.old }
+        ensures asked { HasAsked (2 * (tree_of scan.old).height) (P.view self.old.pages) (P.view self.new.pages) result }
+        ensures root { self.new.root ≡ self.old.root }
+        ensures keeps { P.keeps self.old.pages self.new.pages }
+    {
+        match scan.next(&mut self.pages) {
+            Ok(found) => Ok(found),
+            Err(fault) => Err(AskFault::from(fault)),
+        }
+    }
+
+    /// The line at a place that is the value of a key, in the front of the buffer.
+    pub fn line_at(&mut self, place: u64, buf: &mut [u8]) -> Result<usize, AskFault>
+        requires room { 65535 ≤ length buf.old }
+        ensures line { IfOk result (λ size. OverPlace (P.view self.old.pages) self.old.root place (λ gaz key. IsLineOf gaz key (take size buf.new))) }
+        ensures damaged { IfErr result (λ fault. OverPlace (P.view self.old.pages) self.old.root place (λ gaz key. IsSound fault)) }
+        ensures fits { IfOk result (λ size. size ≤ 65535) }
+        ensures size { length buf.new ≡ length buf.old }
+        ensures asked { HasAsked 17 (P.view self.old.pages) (P.view self.new.pages) result }
+        ensures root { self.new.root ≡ self.old.root }
+        ensures keeps { P.keeps self.old.pages self.new.pages }
+    {
+        self.record(place, buf)
     }
 }
