@@ -199,6 +199,7 @@ chain_drops old new free bytes place current w =
       more = w.gave.more;
       given = λ n among. elim (w.gave.given n among) [ inl was ↦ inl was | inr here ↦ inr (subst (λ (l : List ℕ). Among l n) (sym mine) here) ];
       emptied = λ n among away empty. after_all old new free bytes place current n w (subst (λ (l : List ℕ). Among l n) mine among);
+      whole = λ long n among. after_all old new free bytes place current n w (subst (λ (l : List ℕ). Among l n) mine among);
       stays = λ n out. w.gave.stays n (λ here. out (subst (λ (l : List ℕ). Among l n) (sym mine) here));
       fresh = w.gave.fresh;
       slots = λ other slotted differs. slots_still old new free bytes place current w other (false_from_ne_true (is_chain other) slotted);

@@ -98,6 +98,7 @@ cleared_drops number slot place current old new free c page at no_ use_ heap sta
           let is : n ≡ number = elim (subst (λ (l : List ℕ). Among l n) mine among) [ inl is ↦ is | inr never ↦ absurd never ] in
           let left = stays (λ same. away (is ∙ same)) in
           absurd (nothing _ _ (subst (λ (m : ℕ). (is_record_page m (new.page m) ≡ true → (k : ℕ) → slot_record (new.page m) k ≡ None)) is empty c.cleared.form left.0) (used_record (new.page number) left.0 left.1 left.2));
+      whole = λ long. absurd (let wrong = sym long ∙ o.no_ in cc);
       stays = λ n out. c.others n (λ is. out (subst (λ (l : List ℕ). Among l n) (sym mine) (inl is)));
       fresh = c.fresh;
       slots = λ other slotted differs. slots_same number slot place old new free other o (false_from_ne_true (is_chain other) slotted) differs;
@@ -145,6 +146,7 @@ given_drops number slot place current old new free c page at no_ use_ heap away 
       more = λ n among. inr among;
       given = λ n among. elim among [ inl is ↦ inr (subst (λ (l : List ℕ). Among l n) (sym mine) (inl is)) | inr later ↦ inl later ];
       emptied = λ n among away_ empty. inl (elim (subst (λ (l : List ℕ). Among l n) mine among) [ inl is ↦ is | inr never ↦ absurd never ]);
+      whole = λ long. absurd (let wrong = sym long ∙ o.no_ in cc);
       stays = λ n out. g.others n (λ is. out (subst (λ (l : List ℕ). Among l n) (sym mine) (inl is)));
       fresh = g.fresh;
       slots = λ other slotted differs. slots_same number slot place old new free other o (false_from_ne_true (is_chain other) slotted) differs;
