@@ -1,27 +1,26 @@
 -- A record that is dropped leaves pages laid.
-use Rattle.std.proofs.Common.{◌≡◌, ◌≢◌, ◌≤◌, ◌<◌, ◌-◌, ◌+◌, ◌*◌, ◌⊎◌, ℕ, true, false, List, length, [], ◌∷◌, Option, Some, None, refl, sym, ap, ◌∙◌, subst, arith, inl, inr}
+use Rattle.std.proofs.Common.{◌≡◌, ◌≢◌, ◌≤◌, ◌<◌, ◌-◌, ◌+◌, ◌*◌, ◌⊎◌, ℕ, true, false, List, sym, ap, ◌∙◌, subst, arith, inl, inr}
 use Rattle.std.specs.Prelude.{IsTrue, Contains}
-use Rattle.std.proofs.lemmas.Bool.{cases_Bool, cases_eq, cases_lt}
+use Rattle.std.proofs.lemmas.Bool.{cases_Bool, cases_eq}
 use Rattle.gaz_page.specs.declared.tree_root.Root.{Root}
 use Rattle.gaz_page.specs.Pages.{PagesView}
-use Rattle.gaz_page.specs.Chains.{Among, InUse}
+use Rattle.gaz_page.specs.Chains.{Among}
 use Rattle.gaz_leaf.specs.Node.{Pair}
-use Rattle.gaz_slots.specs.RecordPage.{is_record_page, is_used, slot_record}
+use Rattle.gaz_slots.specs.RecordPage.{is_record_page, is_used}
 use Rattle.gaz_slots.proofs.PageKinds.{overflow_not_record}
-use Rattle.gaz_tree.specs.Tree.{Reaches}
-use Rattle.gaz_tree.specs.Put.{HasChain, left_of}
-use Rattle.gaz_tree.specs.Stands.{Stands as IsTreeOf, OfTree}
+use Rattle.gaz_tree.specs.Stands.{OfTree}
 use Rattle.gaz_tree.proofs.Changed.{reach_on}
-use Rattle.gaz_heap.specs.Place.{pages_of, page_of, slot_of, is_chain, record_at}
+use Rattle.gaz_tree.proofs.Trading.{in_chain}
+use Rattle.gaz_heap.specs.Place.{pages_of, page_of, is_chain, record_at}
 use Rattle.gaz_heap.specs.Facts.{Holds, StillHolds, Drops}
 use Rattle.gaz_heap.proofs.Holds.{nothing, pages_slot}
 use Rattle.gaz_heap.proofs.LongPuts.{among_or_not}
 use Rattle.gaz_heap.proofs.StoredPuts.{the_page, no_chain}
 use Rattle.gaz_together.proofs.Keeps.{tree_after_drop}
 use Rattle.gaz_rows.specs.Stands.{Use, tree, slots, chain, free, HasSlots, IsFor}
-use Rattle.gaz_rows.specs.Laid.{IsLaid, LaidWithout, SameRecords, ends_of, tree_in, all_but, AfterRecordDropped}
-use Rattle.gaz_rows.proofs.LaidForms.{one_chain, slot_form, chain_of_tree, contains_of, among_of}
-use Rattle.gaz_rows.proofs.LaidParts.{Parts, laid_of, frees_one, apart_of, low_of, heap_of, records_of, place_form, place_not_tree, more_slots}
+use Rattle.gaz_rows.specs.Laid.{IsLaid, LaidWithout, ends_of, tree_in, all_but, AfterRecordDropped}
+use Rattle.gaz_rows.proofs.LaidForms.{slot_form, chain_has, contains_of, among_of}
+use Rattle.gaz_rows.proofs.LaidParts.{Parts, laid_of, free_of, apart_of, low_of, heap_of, records_of, place_form, place_not_tree, more_slots}
 use Rattle.gaz_rows.proofs.LaidSlots.{among_all, among_rest, used_has, used_small, used_or_none, used_back, slot_at, near_place, is_used_by}
 use Rattle.gaz_rows.proofs.LaidRoom.{room_stays}
 
@@ -131,8 +130,7 @@ module _ (old new : PagesView) (root : Root) (pairs : List Pair) (current : ℕ)
         (free, contains_of drops.after n (given (subst (λ (q : ℕ). IsTrue (is_chain q)) same is.1) n among))
   ]
   use_now free n some is =
-      let among = subst (λ (l : List ℕ). Among l n) (frees_one old root pairs kept places laid) (among_of laid.used_once.frees n is) in
-      (free, contains_of drops.after n (drops.more n among))
+      (free, contains_of drops.after n (drops.more n (free_of old root pairs kept places laid n is)))
 
   parts : Parts new root pairs kept (all_but place places)
   parts = record {
@@ -156,7 +154,7 @@ module _ (old new : PagesView) (root : Root) (pairs : List Pair) (current : ℕ)
     laid = laid_of new root pairs kept (all_but place places) parts;
     same = λ other has. let was = among_all place places other has in (still other was.0 was.1).holds.at ∙ sym (laid.held other was.0).1.at;
     room = room_stays old new laid.tree.chain drops.fresh
-        (λ then n among. subst (λ (l : List ℕ). Among l n) (one_chain new new.free drops.after then.frees drops.heap.chain (chain_of_tree new new.free then.frees then.first then.chain)) (drops.more n among));
+        (λ then n among. in_chain new n then (record { chain = chain_has new drops.after drops.heap.chain; among = drops.more n among }));
   }
 
 pub after_record_dropped : AfterRecordDropped

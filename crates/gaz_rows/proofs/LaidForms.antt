@@ -1,29 +1,27 @@
 -- Pages of each use have a form of their own, and the free ones are one chain.
-use Rattle.std.proofs.Common.{◌≡◌, ◌≢◌, ◌≤◌, ◌<◌, ◌-◌, ◌+◌, ◌*◌, ◌^◌, ◌⊎◌, ℕ, zero, suc, true, false, List, length, [], ◌∷◌, Option, Some, None, refl, sym, ap, ◌∙◌, subst, arith, inl, inr}
-use Rattle.std.specs.Prelude.{IsSome, IsTrue, slice_index, ◌==◌, ◌&&◌, nat_le, Contains}
-use Rattle.std.proofs.lemmas.Bool.{cases_Bool, cases_lt, and_parts, eqb-true}
-use Rattle.gaz_page.specs.Root.{number_at}
-use Rattle.gaz_page.specs.Free.{free_link, short_at}
+use Rattle.std.proofs.Common.{◌≡◌, ◌≢◌, ◌≤◌, ◌-◌, ◌^◌, ℕ, true, false, List, length, [], ◌∷◌, Option, Some, None, refl, sym, ap, ◌∙◌, subst, arith, inl, inr}
+use Rattle.std.specs.Prelude.{IsSome, Bool, slice_index, ◌==◌, ◌&&◌, Contains}
+use Rattle.std.proofs.lemmas.Bool.{cases_Bool, cases_lt, ne_eqb}
+use Rattle.gaz_page.specs.Free.{free_link}
 use Rattle.gaz_page.specs.Pages.{PagesView}
-use Rattle.gaz_page.specs.Chains.{Each, Among, InUse, IsFreeChain}
+use Rattle.gaz_page.specs.Chains.{Among, InUse, IsFreeChain}
 use Rattle.gaz_leaf.specs.declared.kind.Kind.{Kind}
 use Rattle.gaz_leaf.specs.declared.kind.Kind.TheVariants.{Leaf, Inner}
-use Rattle.gaz_leaf.specs.Node.{Pair, IsForm, kind_byte}
+use Rattle.gaz_leaf.specs.Node.{Pair, IsForm}
 use Rattle.gaz_leaf.proofs.Edits.{first_byte}
 use Rattle.gaz_slots.specs.RecordPage.{is_record_page}
-use Rattle.gaz_slots.specs.Overflow.{has_overflow_head, is_overflow_page}
+use Rattle.gaz_slots.specs.Overflow.{is_overflow_page}
 use Rattle.gaz_slots.proofs.Form.{form_says}
 use Rattle.gaz_slots.proofs.PageKinds.{free_not_record, free_not_overflow, overflow_not_record}
 use Rattle.gaz_slots.proofs.Recorded.{unformed}
 use Rattle.gaz_tree.specs.declared.tree.Tree.{Tree}
 use Rattle.gaz_tree.specs.Tree.{kind_at, Reaches}
-use Rattle.gaz_tree.specs.Put.{first_of, IsChain, HasChain, IsFree}
+use Rattle.gaz_tree.specs.Put.{first_of, IsChain, HasChain}
 use Rattle.gaz_tree.specs.Stands.{Stands as IsTreeOf, OfTree}
+use Rattle.gaz_tree.proofs.Chains.{on_chain}
 use Rattle.gaz_tree.proofs.Changed.{form_not_free, head_form, lower}
-use Rattle.gaz_heap.specs.Chain.{chain_pages}
-use Rattle.gaz_heap.specs.Place.{pages_of, page_of, slot_of, is_chain, record_at}
-use Rattle.gaz_heap.specs.Facts.{Holds}
-use Rattle.gaz_heap.proofs.Holds.{each_formed, chain_of, record_slot, far, pages_chain, nothing}
+use Rattle.gaz_heap.specs.Place.{page_of, slot_of, is_chain, record_at}
+use Rattle.gaz_heap.proofs.Holds.{record_slot, far, nothing}
 use Rattle.gaz_keys.proofs.Tags.{contained, contained_none}
 use Rattle.gaz_rows.specs.Stands.{Use, tree, slots, chain, free, IsFreeChain as IsLinked}
 use Rattle.gaz_rows.proofs.Members.{head_is_in, tail_is_in}
@@ -41,22 +39,6 @@ contains_of (x ∷ xs) n (inr more) = tail_is_in x xs n (contains_of xs n more)
 
 -- ---- the chain of free pages
 
-pub some_same : (a b : ℕ) → Some a ≡ Some b → a ≡ b
-some_same a b is = cc
-
--- from a page on there is one chain
-pub one_chain : (v : PagesView) (first : ℕ) (one other : List ℕ) → IsFreeChain v first one → IsFreeChain v first other → one ≡ other
-one_chain v first [] [] a b = refl
-one_chain v first [] (m ∷ more) a b = absurd (omega (arith, a, b.0, b.1.0))
-one_chain v first (n ∷ rest) [] a b = absurd (omega (arith, b, a.0, a.1.0))
-one_chain v first (n ∷ rest) (m ∷ more) a b =
-    let same : n ≡ m = sym a.0 ∙ b.0 in
-    let link = a.2 in
-    let other = b.2 in
-    let next : link.0 ≡ other.0 = some_same link.0 other.0 (sym link.1 ∙ (λ i. free_link (same i) (v.page (same i))) ∙ other.1) in
-    let rest_is = one_chain v link.0 rest more link.2 (subst (λ (k : ℕ). IsFreeChain v k more) (sym next) other.2) in
-    λ i. same i ∷ rest_is i
-
 -- the chain that a tree supposes
 pub chain_of_tree : (v : PagesView) (first : ℕ) (ns : List ℕ) → first_of ns ≡ first → IsChain v.page v.fresh ns → IsFreeChain v first ns
 chain_of_tree v first [] is c = sym is
@@ -67,6 +49,9 @@ tree_chain v first [] c = (sym c, tt)
 tree_chain v first (n ∷ ns) c =
     let more = tree_chain v c.2.0 ns c.2.2 in
     (sym c.0, (omega (arith, c.1.0), c.1.1, c.2.1 ∙ ap (λ (k : ℕ). Some k) (sym more.0), more.1))
+
+abbrev pub chain_has : (v : PagesView) (ns : List ℕ) → IsFreeChain v v.free ns → HasChain v
+chain_has v ns c = record { frees = ns; first = (tree_chain v v.free ns c).0; chain = (tree_chain v v.free ns c).1 }
 
 -- linked pages that were taken once are such a chain
 pub chain_linked : (v : PagesView) (first : ℕ) (ns : List ℕ) → IsLinked v.page first ns → ((n : ℕ) → Among ns n → InUse v n) → IsFreeChain v first ns
@@ -82,10 +67,9 @@ chain_low v first [] c n i = absurd i
 chain_low v first (m ∷ ns) c n (inl is) = subst (InUse v) (sym is) c.1
 chain_low v first (m ∷ ns) c n (inr i) = chain_low v c.2.0 ns c.2.2 n i
 
-pub chain_form : (v : PagesView) (first : ℕ) (ns : List ℕ) → IsFreeChain v first ns → (n : ℕ) → Among ns n → IsSome (free_link n (v.page n))
-chain_form v first [] c n i = absurd i
-chain_form v first (m ∷ ns) c n (inl is) = subst (λ (k : ℕ). IsSome (free_link k (v.page k))) (sym is) (subst IsSome (sym c.2.1) refl)
-chain_form v first (m ∷ ns) c n (inr i) = chain_form v c.2.0 ns c.2.2 n i
+-- free pages are free ones in form
+pub chain_form : (v : PagesView) (linked : HasChain v) (n : ℕ) → Among linked.frees n → IsSome (free_link n (v.page n))
+chain_form v linked n among = on_chain v.page v.fresh n linked.frees linked.chain among
 
 -- ---- forms
 
@@ -104,27 +88,19 @@ tree_byte : (n : ℕ) (page : List ℕ) → HasForm tree n page → slice_index 
 tree_byte n page (Leaf, form) = let is = first_byte Leaf n page form in omega (arith, is)
 tree_byte n page (Inner, form) = let is = first_byte Inner n page form in omega (arith, is)
 
-overflow_byte : (number : ℕ) (page : List ℕ) → is_overflow_page number page ≡ true → slice_index page 0 ≡ 4
+not_overflow : (n : ℕ) (page : List ℕ) → slice_index page 0 ≢ 4 → is_overflow_page n page ≡ true → ⊥
 unfolding is_overflow_page
-overflow_byte number page form =
-    let head = has_overflow_head number page in
-    let parts = and_parts (head && nat_le 1 (short_at 2 page)) (nat_le (short_at 2 page) 4080) form in
-    let low = and_parts head (nat_le 1 (short_at 2 page)) parts.0 in
-    let size = length page == 4096 in
-    let kind = slice_index page 0 == 4 in
-    let zero_ = slice_index page 1 == 0 in
-    let own = number_at 4 page == number in
-    let h4 = and_parts (size && kind && zero_ && own) (number_at 12 page == 0) low.0 in
-    let h3 = and_parts (size && kind && zero_) own h4.0 in
-    let h2 = and_parts (size && kind) zero_ h3.0 in
-    let h1 = and_parts size kind h2.0 in
-    eqb-true (slice_index page 0) 4 h1.1
+not_overflow n page differs form = by (length page == 4096) _ _ _ _ _ (rw (ne_eqb (slice_index page 0) 4 differs) at form)
+  where
+    by : (size zero_ own ends some few : Bool) → (size && false && zero_ && own && ends && some && few) ≡ true → ⊥
+    by true zero_ own ends some few is = cc
+    by false zero_ own ends some few is = cc
 
 pub tree_not_slots : (n : ℕ) (page : List ℕ) → HasForm tree n page → HasForm slots n page → ⊥
 tree_not_slots n page a b = omega (arith, tree_byte n page a, (form_says n page b).kind)
 
 pub tree_not_chain : (n place : ℕ) (page : List ℕ) → HasForm tree n page → HasForm (chain place) n page → ⊥
-tree_not_chain n place page a b = omega (arith, tree_byte n page a, overflow_byte n page b)
+tree_not_chain n place page a b = not_overflow n page (λ is. omega (arith, is, tree_byte n page a)) b
 
 pub tree_not_free : (n : ℕ) (page : List ℕ) → HasForm tree n page → HasForm free n page → ⊥
 tree_not_free n page a b = form_not_free a.0 n page a.1 b

@@ -1,14 +1,13 @@
--- Laid pages with the places in another order, and with fewer pages kept for new records.
-use Rattle.std.proofs.Common.{◌≡◌, ◌≢◌, ◌<◌, ◌+◌, ◌*◌, ◌⊎◌, ℕ, true, List, ◌∷◌, refl, sym, ap, ◌∙◌, subst, arith, inl, inr}
-use Rattle.std.specs.Prelude.{IsTrue, Contains}
+-- Laid pages with the places in another order, with fewer pages kept for new records, and under another root with the same tree.
+use Rattle.std.proofs.Common.{sym, ◌≡◌, ◌+◌, ◌*◌, ◌⊎◌, ℕ, List, ◌∷◌, subst, inl, inr}
+use Rattle.std.specs.Prelude.{Contains}
 use Rattle.gaz_page.specs.declared.tree_root.Root.{Root}
 use Rattle.gaz_page.specs.Pages.{PagesView}
 use Rattle.gaz_leaf.specs.Node.{Pair}
-use Rattle.gaz_slots.specs.RecordPage.{is_used, count_in, from_in, is_record_page}
 use Rattle.gaz_heap.specs.Heap.{HasUsed}
 use Rattle.gaz_keys.proofs.Tags.{contained}
 use Rattle.gaz_rows.specs.Stands.{Use, tree, slots, chain, free, HasSlots, IsFor}
-use Rattle.gaz_rows.specs.Laid.{IsLaid, ends_of, AfterOrder, AfterKept}
+use Rattle.gaz_rows.specs.Laid.{IsLaid, ends_of, AfterOrder, AfterKept, AfterRoot}
 use Rattle.gaz_rows.proofs.LaidParts.{more_slots, more_for}
 use Rattle.gaz_rows.proofs.LaidSlots.{is_used_by, slot_small}
 use Rattle.gaz_rows.proofs.Members.{tail_is_in}
@@ -78,3 +77,33 @@ after_kept v root pairs page kept places laid none_or =
       | inl is ↦ subst (IsKeptBy v kept) is none_or
       | inr there ↦ inr (inr there)
     ])
+
+pub after_root : AfterRoot
+after_root v root other pairs kept places top height laid =
+    let moved : IsLaid v (record root { top = other.top; height = other.height }) pairs kept places =
+    subst (λ (r : Root). IsLaid v r pairs kept places) (λ i. record root { top = sym top i; height = sym height i }) laid in
+    record {
+      tree = moved.tree;
+      held = moved.held;
+      used_once = record {
+        frees = moved.used_once.frees;
+        free_chain = moved.used_once.free_chain;
+        used = λ n some below. let was = moved.used_once.used n some below in (was.0, at was.0 n moved.used_once.frees was.1);
+        once = λ n one more is also. moved.used_once.once n one more (back one n moved.used_once.frees is) (back more n moved.used_once.frees also);
+        in_range = λ n what is. moved.used_once.in_range n what (back what n moved.used_once.frees is);
+        in_form = moved.used_once.in_form;
+        no_more = moved.used_once.no_more;
+      };
+    }
+  where
+    at : (what : Use) (n : ℕ) (frees : List ℕ) → IsFor v.page (ends_of v (record root { top = other.top; height = other.height })) kept places frees what n → IsFor v.page (ends_of v other) kept places frees what n
+    at tree n frees is = is
+    at slots n frees is = is
+    at (chain p) n frees is = is
+    at free n frees is = is
+
+    back : (what : Use) (n : ℕ) (frees : List ℕ) → IsFor v.page (ends_of v other) kept places frees what n → IsFor v.page (ends_of v (record root { top = other.top; height = other.height })) kept places frees what n
+    back tree n frees is = is
+    back slots n frees is = is
+    back (chain p) n frees is = is
+    back free n frees is = is

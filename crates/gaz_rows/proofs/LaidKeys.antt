@@ -1,22 +1,21 @@
 -- A key that is put or taken out leaves pages laid.
-use Rattle.std.proofs.Common.{◌≡◌, ◌≢◌, ◌≤◌, ◌<◌, ◌-◌, ◌+◌, ◌*◌, ◌⊎◌, ℕ, true, List, length, [], ◌∷◌, refl, sym, ap, ◌∙◌, subst, arith, inl, inr}
+use Rattle.std.proofs.Common.{◌≡◌, ◌⊎◌, ℕ, true, List, sym, ◌∙◌, subst, arith, inl, inr}
 use Rattle.std.specs.Prelude.{IsTrue, Contains}
 use Rattle.std.proofs.lemmas.Bool.{cases_lt}
 use Rattle.gaz_page.specs.declared.tree_root.Root.{Root}
 use Rattle.gaz_page.specs.Pages.{PagesView}
-use Rattle.gaz_page.specs.Chains.{Among, InUse, IsTakenSince}
+use Rattle.gaz_page.specs.Chains.{Among, IsTakenSince}
 use Rattle.gaz_leaf.specs.Node.{Pair}
 use Rattle.gaz_slots.specs.RecordPage.{is_record_page, is_used}
-use Rattle.gaz_tree.specs.Put.{HasChain, IsFree, Changes, left_of}
+use Rattle.gaz_tree.specs.Put.{HasChain, IsFree, Changes}
 use Rattle.gaz_tree.specs.Stands.{Stands as IsTreeOf, OfTree}
 use Rattle.gaz_tree.proofs.Trading.{in_chain}
-use Rattle.gaz_heap.specs.Place.{pages_of, record_at}
-use Rattle.gaz_heap.specs.Facts.{Holds, StillHolds}
+use Rattle.gaz_heap.specs.Facts.{StillHolds}
 use Rattle.gaz_together.proofs.Keeps.{record_after_key}
 use Rattle.gaz_rows.specs.Stands.{Use, tree, slots, chain, free, HasSlots, IsFor}
-use Rattle.gaz_rows.specs.Laid.{IsLaid, LaidBy, SameRecords, ends_of, tree_in, AfterKeyPut, AfterKeyRemoved}
-use Rattle.gaz_rows.proofs.LaidForms.{tree_form, tree_not_slots, tree_not_free, free_not_slots, chain_form, chain_of_tree, contains_of, among_of}
-use Rattle.gaz_rows.proofs.LaidParts.{Parts, laid_of, frees_one, apart_of, low_of}
+use Rattle.gaz_rows.specs.Laid.{IsLaid, SameRecords, ends_of, tree_in, AfterKeyPut, AfterKeyRemoved}
+use Rattle.gaz_rows.proofs.LaidForms.{tree_form, tree_not_slots, tree_not_free, free_not_slots, chain_of_tree, contains_of}
+use Rattle.gaz_rows.proofs.LaidParts.{Parts, laid_of, free_of, free_form, apart_of, low_of}
 use Rattle.gaz_rows.proofs.LaidRoom.{room_stays}
 
 module _ (old new : PagesView) (root now : Root) (pairs more : List Pair) (kept places : List ℕ) (laid : IsLaid old root pairs kept places) (after : IsTreeOf new (tree_in now) more)
@@ -46,8 +45,7 @@ module _ (old new : PagesView) (root now : Root) (pairs more : List Pair) (kept 
   used_as slots n is = (slots, is)
   used_as (chain p) n is = (chain p, (is.0, is.1, subst (λ (l : List ℕ). Contains l n) (sym (still p is.0).1.pages) is.2))
   used_as free n is =
-      let among = subst (λ (l : List ℕ). Among l n) (frees_one old root pairs kept places laid) (among_of laid.used_once.frees n is) in
-      moved n (inl (inr (record { chain = laid.tree.chain; among = among })))
+      moved n (inl (inr (record { chain = laid.tree.chain; among = free_of old root pairs kept places laid n is })))
 
   parts : Parts new now more kept places
   parts = record {
@@ -96,6 +94,5 @@ after_key_removed old new root now pairs fewer kept places laid after fresh retu
     still_free then n among = elim (returns.all n (inr (record { chain = laid.tree.chain; among = among }))) [
       | inr linked ↦ in_chain new n then linked
       | inl reach ↦
-          let form = chain_form old old.free laid.tree.chain.frees (chain_of_tree old old.free laid.tree.chain.frees laid.tree.chain.first laid.tree.chain.chain) n among in
-          absurd (tree_not_free n (old.page n) (tree_form old (tree_in root) pairs n laid.tree (within n reach)) form)
+          absurd (tree_not_free n (old.page n) (tree_form old (tree_in root) pairs n laid.tree (within n reach)) (free_form old root pairs kept places laid n among))
     ]

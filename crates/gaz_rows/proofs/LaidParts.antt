@@ -1,26 +1,24 @@
 -- What makes pages laid, each fact by itself, and what laid pages give.
-use Rattle.std.proofs.Common.{◌≡◌, ◌≢◌, ◌≤◌, ◌<◌, ◌-◌, ◌+◌, ◌*◌, ◌⊎◌, ℕ, zero, suc, true, false, List, length, [], ◌∷◌, Option, Some, None, refl, sym, ap, ◌∙◌, subst, arith, inl, inr}
-use Rattle.std.specs.Prelude.{IsSome, IsTrue, Contains}
+use Rattle.std.proofs.Common.{◌≡◌, ◌≢◌, ◌≤◌, ◌<◌, ◌-◌, ◌+◌, ◌*◌, ◌⊎◌, ℕ, zero, suc, true, false, List, refl, sym, ◌∙◌, subst, arith, inl, inr}
+use Rattle.std.specs.Prelude.{IsTrue, Contains}
 use Rattle.std.proofs.lemmas.Bool.{cases_Bool, cases_eq, eq-eqb}
 use Rattle.gaz_page.specs.declared.tree_root.Root.{Root}
 use Rattle.gaz_page.specs.Pages.{PagesView}
-use Rattle.gaz_page.specs.Chains.{Each, Among, InUse, IsFreeChain}
+use Rattle.gaz_page.specs.Chains.{Among, InUse, IsFreeChain}
 use Rattle.gaz_leaf.specs.Node.{Pair}
 use Rattle.gaz_slots.specs.RecordPage.{is_record_page, is_used}
 use Rattle.gaz_slots.specs.Overflow.{is_overflow_page}
 use Rattle.gaz_tree.specs.Tree.{Reaches}
-use Rattle.gaz_tree.specs.Put.{HasChain, IsFree}
 use Rattle.gaz_tree.specs.Stands.{Stands as IsTreeOf, OfTree}
 use Rattle.gaz_tree.proofs.Trading.{in_chain}
 use Rattle.gaz_heap.specs.Chain.{chain_pages}
-use Rattle.gaz_heap.specs.Place.{pages_of, page_of, slot_of, is_chain, record_at}
+use Rattle.gaz_heap.specs.Place.{pages_of, page_of, slot_of, is_chain}
 use Rattle.gaz_heap.specs.Facts.{Holds, ShareNone, IsHeap, IsForRecords}
 use Rattle.gaz_heap.proofs.Holds.{each_formed, chain_of, pages_chain, pages_slot}
-use Rattle.gaz_heap.proofs.LongPuts.{each_at, each_from}
-use Rattle.gaz_heap.proofs.StoredPuts.{the_page, the_slot, no_chain}
-use Rattle.gaz_rows.specs.Stands.{Use, tree, slots, chain, free, HasSlots, IsFor, AreUsedOnce}
+use Rattle.gaz_heap.proofs.LongPuts.{each_at}
+use Rattle.gaz_rows.specs.Stands.{Use, tree, slots, chain, free, HasSlots, IsFor}
 use Rattle.gaz_rows.specs.Laid.{IsLaid, ends_of, tree_in}
-use Rattle.gaz_rows.proofs.LaidForms.{HasForm, OnePlace, same_use, tree_not_slots, tree_not_chain, tree_form, slot_form, chain_low, chain_form, chain_linked, linked_of, chain_of_tree, one_chain, among_of, contains_of}
+use Rattle.gaz_rows.proofs.LaidForms.{HasForm, OnePlace, same_use, tree_not_slots, tree_not_chain, tree_form, slot_form, chain_low, chain_form, chain_linked, linked_of, chain_of_tree, chain_has, among_of, contains_of}
 
 pub chain_page_form : (v : PagesView) (place : ℕ) (bytes : List ℕ) (n : ℕ) → IsTrue (is_chain place) → Holds v place bytes → Among (pages_of v.page place) n → HasForm (chain place) n (v.page n)
 chain_page_form v place bytes n is holds among =
@@ -47,7 +45,7 @@ module _ (v : PagesView) (root : Root) (pairs : List Pair) (kept places : List �
   form_of tree n is = tree_form v (tree_in root) pairs n p.tree_is is
   form_of slots n is = p.in_form n is
   form_of (chain place) n is = let held = p.held place is.0 in chain_page_form v place held.0 n is.1 held.1 (among_of (pages_of v.page place) n is.2)
-  form_of free n is = chain_form v v.free p.frees p.chain_is n (among_of p.frees n is)
+  form_of free n is = chain_form v (chain_has v p.frees p.chain_is) n (among_of p.frees n is)
 
   one_place : (one other : Use) (n : ℕ) → IsFor v.page (ends_of v root) kept places p.frees one n → IsFor v.page (ends_of v root) kept places p.frees other n → OnePlace one other
   one_place (chain a) (chain b) n is also =
@@ -139,8 +137,12 @@ module _ (v : PagesView) (root : Root) (pairs : List Pair) (kept places : List �
   pub free_chain_of : IsFreeChain v v.free laid.used_once.frees
   free_chain_of = chain_linked v v.free laid.used_once.frees laid.used_once.free_chain (λ n among. laid.used_once.in_range n free (contains_of laid.used_once.frees n among))
 
-  pub frees_one : laid.used_once.frees ≡ laid.tree.chain.frees
-  frees_one = one_chain v v.free laid.used_once.frees laid.tree.chain.frees free_chain_of (chain_of_tree v v.free laid.tree.chain.frees laid.tree.chain.first laid.tree.chain.chain)
+  -- the free pages are those of which the tree knows
+  pub free_of : (n : ℕ) → Contains laid.used_once.frees n → Among laid.tree.chain.frees n
+  free_of n has = in_chain v n laid.tree.chain (record { chain = chain_has v laid.used_once.frees free_chain_of; among = among_of laid.used_once.frees n has })
+
+  pub free_form : (n : ℕ) → Among laid.tree.chain.frees n → HasForm free n (v.page n)
+  free_form n among = chain_form v laid.tree.chain n among
 
   pub apart_of : (one other : ℕ) → Contains places one → Contains places other → one ≢ other → ShareNone v one other
   apart_of one other a b differ is also n here there = absurd (differ (by (laid.used_once.once n (chain one) (chain other) (a, is, contains_of (pages_of v.page one) n here) (b, also, contains_of (pages_of v.page other) n there))))

@@ -1,19 +1,18 @@
 -- A record that is put leaves pages laid.
-use Rattle.std.proofs.Common.{◌≡◌, ◌≢◌, ◌≤◌, ◌<◌, ◌-◌, ◌+◌, ◌*◌, ◌⊎◌, ℕ, true, false, List, length, [], ◌∷◌, Option, Some, None, refl, sym, ap, ◌∙◌, subst, arith, inl, inr}
+use Rattle.std.proofs.Common.{◌≡◌, ◌≢◌, ◌≤◌, ◌<◌, ◌-◌, ◌+◌, ◌*◌, ◌⊎◌, ℕ, true, false, List, [], ◌∷◌, refl, sym, ap, ◌∙◌, subst, arith, inl, inr}
 use Rattle.std.specs.Prelude.{IsTrue, Contains}
 use Rattle.std.proofs.lemmas.Bool.{cases_Bool, cases_eq, cases_lt}
 use Rattle.gaz_page.specs.declared.tree_root.Root.{Root}
 use Rattle.gaz_page.specs.Pages.{PagesView}
 use Rattle.gaz_page.specs.Chains.{Among, InUse, IsTakenSince}
 use Rattle.gaz_leaf.specs.Node.{Pair}
-use Rattle.gaz_slots.specs.RecordPage.{is_record_page, is_used, slot_record}
+use Rattle.gaz_slots.specs.RecordPage.{is_record_page, is_used}
 use Rattle.gaz_slots.proofs.PageKinds.{overflow_not_record}
-use Rattle.gaz_tree.specs.Tree.{Reaches}
-use Rattle.gaz_tree.specs.Put.{HasChain, left_of}
-use Rattle.gaz_tree.specs.Stands.{Stands as IsTreeOf, OfTree}
+use Rattle.gaz_tree.specs.Stands.{OfTree}
 use Rattle.gaz_tree.proofs.Changed.{reach_on}
+use Rattle.gaz_tree.proofs.Chains.{left_one}
 use Rattle.gaz_heap.specs.Heap.{HasUsed}
-use Rattle.gaz_heap.specs.Place.{pages_of, page_of, slot_of, is_chain, record_at}
+use Rattle.gaz_heap.specs.Place.{pages_of, page_of, is_chain, record_at}
 use Rattle.gaz_heap.specs.Facts.{Holds, StillHolds, ShareNone, Puts}
 use Rattle.gaz_heap.proofs.Holds.{nothing, pages_slot}
 use Rattle.gaz_heap.proofs.LongPuts.{among_or_not, each_at}
@@ -22,8 +21,8 @@ use Rattle.gaz_keys.proofs.Tags.{contained, contained_none}
 use Rattle.gaz_together.proofs.Keeps.{tree_after_put}
 use Rattle.gaz_rows.specs.Stands.{Use, tree, slots, chain, free, HasSlots, IsFor}
 use Rattle.gaz_rows.specs.Laid.{IsLaid, LaidWith, HasRoom, ends_of, tree_in, AfterRecordPut, AfterRecordPutAlone}
-use Rattle.gaz_rows.proofs.LaidForms.{one_chain, slot_form, chain_form, chain_of_tree, contains_of, among_of, tree_form, tree_not_slots, tree_not_free, free_not_slots}
-use Rattle.gaz_rows.proofs.LaidParts.{Parts, laid_of, frees_one, apart_of, low_of, heap_of, records_of, place_form, chain_page_form, more_slots, slots_at}
+use Rattle.gaz_rows.proofs.LaidForms.{slot_form, chain_form, chain_has, contains_of, among_of, tree_form, tree_not_slots, tree_not_free, free_not_slots}
+use Rattle.gaz_rows.proofs.LaidParts.{Parts, laid_of, free_of, free_form, apart_of, low_of, heap_of, records_of, place_form, chain_page_form, more_slots, slots_at}
 use Rattle.gaz_rows.proofs.LaidSlots.{used_has, used_small, slot_small, used_back, slot_at, near_place, is_used_by, used_by, used_if}
 use Rattle.gaz_rows.proofs.LaidKept.{IsKeptBy, fewer_kept}
 use Rattle.gaz_rows.proofs.Members.{head_is_in, tail_is_in}
@@ -41,7 +40,7 @@ module _ (old new : PagesView) (root : Root) (pairs : List Pair) (current now : 
       elim (puts.owns n among) [
         | inl here ↦ tree_not_slots n (old.page n) form here.1
         | inr more ↦ elim more [
-          | inl free_ ↦ tree_not_free n (old.page n) form (chain_form old old.free laid.tree.chain.frees (heap_of old root pairs kept places laid current current_is).chain n free_)
+          | inl free_ ↦ tree_not_free n (old.page n) form (free_form old root pairs kept places laid n free_)
           | inr past ↦ (let lies = laid.tree.lies n reach in omega (arith, past, lies.end))
         ]
       ])
@@ -51,7 +50,7 @@ module _ (old new : PagesView) (root : Root) (pairs : List Pair) (current now : 
   was_current n has among = elim (puts.owns n among) [
     | inl here ↦ here.0
     | inr more ↦ elim more [
-      | inl free_ ↦ absurd (free_not_slots n (old.page n) (chain_form old old.free laid.tree.chain.frees (heap_of old root pairs kept places laid current current_is).chain n free_) (laid.used_once.in_form n has))
+      | inl free_ ↦ absurd (free_not_slots n (old.page n) (free_form old root pairs kept places laid n free_) (laid.used_once.in_form n has))
       | inr past ↦ absurd (let low = low_of old root pairs kept places laid n has in omega (arith, past, low.1))
     ]
   ]
@@ -129,8 +128,7 @@ module _ (old new : PagesView) (root : Root) (pairs : List Pair) (current now : 
           let held = laid.held p is.0 in
           absurd (overflow_not_record n n (old.page n) (chain_page_form old p held.0 n is.1 held.1 (among_of (pages_of old.page p) n is.2)) form)
       by free is =
-          let among = subst (λ (l : List ℕ). Among l n) (frees_one old root pairs kept places laid) (among_of laid.used_once.frees n is) in
-          absurd (free_not_slots n (old.page n) (chain_form old old.free laid.tree.chain.frees (heap_of old root pairs kept places laid current current_is).chain n among) form)
+          absurd (free_not_slots n (old.page n) (free_form old root pairs kept places laid n (free_of old root pairs kept places laid n is)) form)
 
   -- a used slot of a page that stayed
   used_away : (n slot : ℕ) → HasSlots (now ∷ kept) (place ∷ places) n → (Among (pages_of new.page place) n → ⊥) → IsTrue (is_used (new.page n) slot) → Contains (place ∷ places) (n * 65536 + slot)
@@ -143,7 +141,7 @@ module _ (old new : PagesView) (root : Root) (pairs : List Pair) (current now : 
             let had = had_slots n low.0 below (subst (λ (p : List ℕ). is_record_page n p ≡ true) same form) in
             tail_is_in place places (n * 65536 + slot) (laid.used_once.no_more n slot had (subst (λ (p : List ℕ). IsTrue (is_used p slot)) same used))
         | inr past ↦ elim (puts.taken n (inr (past, low.1))) [
-          | inl free_ ↦ absurd (free_not_slots n (new.page n) (chain_form new new.free puts.left puts.heap.chain n free_) form)
+          | inl free_ ↦ absurd (free_not_slots n (new.page n) (chain_form new (chain_has new puts.left puts.heap.chain) n free_) form)
           | inr here ↦ absurd (away here)
         ]
       ]
@@ -198,7 +196,7 @@ module _ (old new : PagesView) (root : Root) (pairs : List Pair) (current now : 
   use_now tree n is = (tree, reach_on old.page new.page (root.height - 1) root.top n tree_stays is)
   use_now slots n is = (slots, more_slots kept (now ∷ kept) places (place ∷ places) (tail_is_in now kept) (tail_is_in place places) n is)
   use_now (chain p) n is = (chain p, (tail_is_in place places p is.0, is.1, subst (λ (l : List ℕ). Contains l n) (sym (still p is.0).pages) is.2))
-  use_now free n is = taken_now n (inl (subst (λ (l : List ℕ). Among l n) (frees_one old root pairs kept places laid) (among_of laid.used_once.frees n is)))
+  use_now free n is = taken_now n (inl (free_of old root pairs kept places laid n is))
 
   -- two places share no page
   apart : (one other : ℕ) → Contains (place ∷ places) one → Contains (place ∷ places) other → one ≢ other → ShareNone new one other
@@ -242,9 +240,8 @@ module _ (old new : PagesView) (root : Root) (pairs : List Pair) (current now : 
   room_left : (n : ℕ) → HasRoom (n + 17) old → HasRoom n new
   room_left n room then =
       let least = room laid.tree.chain in
-      let same = one_chain new new.free puts.left then.frees puts.heap.chain (chain_of_tree new new.free then.frees then.first then.chain) in
-      let long : length puts.left ≡ length then.frees = ap (λ (l : List ℕ). length l) same in
-      omega (arith, least, puts.takes, puts.grows, long)
+      let same = left_one new (chain_has new puts.left puts.heap.chain) then in
+      omega (arith, least, puts.takes, puts.grows, same)
 
   pub was_put : LaidWith old new root pairs now kept places bytes place
   was_put = record {

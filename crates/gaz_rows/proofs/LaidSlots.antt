@@ -1,14 +1,14 @@
 -- Used slots of a record page and the records at their places.
-use Rattle.std.proofs.Common.{◌≡◌, ◌≢◌, ◌≤◌, ◌<◌, ◌+◌, ◌*◌, ◌⊎◌, ℕ, zero, suc, Bool, true, false, List, [], ◌∷◌, Option, Some, None, refl, sym, ap, ◌∙◌, subst, arith, inl, inr}
-use Rattle.std.specs.Prelude.{IsTrue, Contains, filter, not, ◌==◌, ◌&&◌, if◌then◌else◌}
-use Rattle.std.proofs.lemmas.Bool.{cases_Bool, cases_eq, cases_lt, ne_eqb, eq-eqb, and_parts, ltb-true, lt-ltb}
+use Rattle.std.proofs.Common.{◌≡◌, ◌≢◌, ◌<◌, ◌+◌, ◌*◌, ◌⊎◌, ℕ, zero, suc, true, false, List, [], ◌∷◌, Some, None, refl, sym, ap, ◌∙◌, subst, arith, inl, inr}
+use Rattle.std.specs.Prelude.{Contains, not, ◌==◌}
+use Rattle.std.proofs.lemmas.Bool.{cases_eq, cases_lt, ne_eqb, eq-eqb, and_parts, ltb-true, lt-ltb}
 use Rattle.std.proofs.lemmas.Option.{cond_some}
 use Rattle.gaz_slots.specs.Bytes.{part}
 use Rattle.gaz_slots.specs.RecordPage.{count_in, from_in, size_in, is_used, is_record_page, slot_record, record_in}
 use Rattle.gaz_slots.proofs.Form.{form_says, used_record, free_record, past_record}
 use Rattle.gaz_slots.proofs.Recorded.{formed}
 use Rattle.gaz_heap.specs.Heap.{HasUsed}
-use Rattle.gaz_heap.specs.Place.{page_of, slot_of, is_chain, record_at}
+use Rattle.gaz_heap.specs.Place.{page_of, record_at}
 use Rattle.gaz_heap.proofs.Holds.{record_slot, far, nothing}
 use Rattle.gaz_heap.proofs.StoredPuts.{the_page, the_slot, no_chain}
 use Rattle.gaz_keys.proofs.Tags.{contained, contained_none}

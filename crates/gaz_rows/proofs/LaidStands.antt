@@ -1,34 +1,31 @@
 -- Pages that stand for a gazetteer are laid.
-use Rattle.std.proofs.Common.{◌≡◌, ◌≢◌, ◌≤◌, ◌<◌, ◌-◌, ◌+◌, ◌*◌, ◌^◌, ◌⊎◌, ℕ, suc, Bool, true, false, List, map, [], ◌∷◌, Option, Some, None, refl, sym, ap, ◌∙◌, subst, arith, inl, inr}
-use Rattle.std.specs.Prelude.{IsTrue, Contains, All, option_and_then, bytes_eq, if◌then◌else◌}
+use Rattle.std.proofs.Common.{◌≡◌, ◌≤◌, ◌-◌, ◌^◌, ℕ, suc, Bool, true, false, List, [], ◌∷◌, Some, refl, sym, ap, ◌∙◌, subst, arith, inl, inr}
+use Rattle.std.specs.Prelude.{Contains, All, option_and_then, bytes_eq, if◌then◌else◌}
 use Rattle.std.specs.List.{list_any}
 use Rattle.std.proofs.lemmas.Bool.{cases_Bool}
 use Rattle.std.proofs.lemmas.Slice.Eq.{bytes_eq-Decides}
 use Rattle.std.proofs.lemmas.Map.Views.{Contains-from_any}
 use Rattle.gaz_num.specs.Pieces.{column}
-use Rattle.gaz_num.specs.declared.words.Table.{Table}
 use Rattle.gaz_plain.specs.Gazetteer.{Gazetteer}
 use Rattle.gaz_page.specs.declared.tree_root.Root.{Root}
 use Rattle.gaz_page.specs.Pages.{PagesView}
-use Rattle.gaz_page.specs.Chains.{Each, Among, InUse}
+use Rattle.gaz_page.specs.Chains.{Each, InUse}
 use Rattle.gaz_leaf.specs.Node.{Pair, key_of}
 use Rattle.gaz_tree.specs.Pairs.{Within, lookup}
 use Rattle.gaz_tree.specs.Put.{HasChain}
-use Rattle.gaz_tree.specs.Stands.{Stands as IsTreeOf, OfTree}
 use Rattle.gaz_tree.proofs.Lists.{lookup-same, lookup-other}
 use Rattle.gaz_tree.proofs.Fans.{head_within}
 use Rattle.gaz_heap.specs.Place.{pages_of, page_of, is_chain, record_at}
-use Rattle.gaz_heap.specs.Facts.{Holds}
 use Rattle.gaz_heap.proofs.Holds.{pages_slot}
 use Rattle.gaz_heap.proofs.LongPuts.{each_from}
 use Rattle.gaz_keys.specs.Parts.{has_place, tag_of}
 use Rattle.gaz_keys.proofs.Tags.{contained, contained_none, tag_at, tag_has_place}
 use Rattle.gaz_rows.specs.Index.{line_key}
-use Rattle.gaz_rows.specs.Stands.{Use, tree, slots, chain, free, StandsForBut, value_in, places_in, tag_in}
-use Rattle.gaz_rows.specs.Laid.{IsLaid, ends_of, tree_in, AreLaid}
+use Rattle.gaz_rows.specs.Stands.{tree, slots, chain, free, StandsForBut, value_in, places_in, tag_in}
+use Rattle.gaz_rows.specs.Laid.{IsLaid, ends_of, AreLaid}
 use Rattle.gaz_rows.proofs.Counting.{map_from, passed}
 use Rattle.gaz_rows.proofs.RoomPairs.{placed, place_of_line}
-use Rattle.gaz_rows.proofs.LaidForms.{chain_linked, tree_chain, contains_of, among_of}
+use Rattle.gaz_rows.proofs.LaidForms.{chain_linked, tree_chain, contains_of}
 use Rattle.gaz_rows.proofs.LaidParts.{slots_at}
 
 -- the value of a pair is found at its key

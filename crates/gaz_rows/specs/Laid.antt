@@ -1,6 +1,6 @@
 -- Pages on which a tree and records are laid, each page for one thing, while lines come and go: what a call on the tree or on a record leaves
 -- of them. The lines at the places, and which keys the tree has, don't matter here.
-use Rattle.std.specs.Prelude.{◌≡◌, ◌≢◌, ◌⊎◌, ◌≤◌, ◌+◌, ◌==◌, ℕ, Bool, not, IsTrue, List, [], ◌∷◌, filter, Some, Contains}
+use Rattle.std.specs.Prelude.{◌≡◌, ◌⊎◌, ◌≤◌, ◌+◌, ◌==◌, ℕ, not, IsTrue, List, [], ◌∷◌, filter, Some, Contains}
 use Rattle.gaz_page.specs.declared.tree_root.Root.{Root}
 use Rattle.gaz_page.specs.Pages.{PagesView}
 use Rattle.gaz_leaf.specs.Node.{Pair}
@@ -10,7 +10,7 @@ use Rattle.gaz_tree.specs.Remove.{Returns}
 use Rattle.gaz_tree.specs.Stands.{Stands as IsTreeOf, OfTree}
 use Rattle.gaz_page.specs.Chains.{Among}
 use Rattle.gaz_heap.specs.Place.{record_at, page_of, pages_of, is_chain}
-use Rattle.gaz_heap.specs.Facts.{Holds, Puts, Drops, IsForRecords}
+use Rattle.gaz_heap.specs.Facts.{Holds, Puts, Drops}
 use Rattle.gaz_heap.specs.Heap.{HasUsed}
 use Rattle.gaz_plain.specs.Gazetteer.{Gazetteer}
 use Rattle.gaz_rows.specs.Stands.{AreUsedOnce, StandsForBut, places_in}
@@ -80,7 +80,8 @@ pub record LaidWithout (old new : PagesView) (root : Root) (pairs : List Pair) (
   pub same : SameRecords old new (all_but place places)
   pub room : (n : ℕ) → HasRoom n old → HasRoom n new
 
--- A record is dropped, of whose page no other caller thinks as one for new records: it goes with its last record. A long record gives all its pages.
+-- A record is dropped. A record page goes with its last record, so no page of it is kept but the one for new records. A long record gives all its
+-- pages.
 abbrev pub AfterRecordDropped : Type 0
 AfterRecordDropped =
     (old new : PagesView) (root : Root) (pairs : List Pair) (current : ℕ) (kept places : List ℕ) (place : ℕ)
@@ -120,6 +121,12 @@ AfterOrder =
     (v : PagesView) (root : Root) (pairs : List Pair) (kept places others : List ℕ) → IsLaid v root pairs kept places
     → ((place : ℕ) → Contains places place → Contains others place) → ((place : ℕ) → Contains others place → Contains places place)
     → IsLaid v root pairs kept others
+
+-- Of a root only the tree matters.
+abbrev pub AfterRoot : Type 0
+AfterRoot =
+    (v : PagesView) (root other : Root) (pairs : List Pair) (kept places : List ℕ) → other.top ≡ root.top → other.height ≡ root.height
+    → IsLaid v root pairs kept places → IsLaid v other pairs kept places
 
 -- Pages that stand for a gazetteer are so laid, with the page for new records kept, and at the places of the lines.
 abbrev pub AreLaid : Type 0
