@@ -1,12 +1,12 @@
 -- Keys have 32 bytes.
-use Rattle.std.proofs.Common.{◌≡◌, ◌<◌, ◌≤◌, ℕ, zero, suc, ◌+◌, ◌-◌, Bool, true, false, List, [], ◌∷◌, ◌++◌, length, take, replicate, refl, subst, sym, ◌∙◌, ap, arith, inl, inr, Option, Some, None, length-append, length-take}
+use Rattle.std.proofs.Common.{◌≡◌, ◌<◌, ◌≤◌, ℕ, zero, suc, ◌+◌, ◌-◌, Bool, true, false, List, [], ◌∷◌, ◌++◌, length, take, replicate, refl, subst, arith, inl, inr, Some, None, length-append, length-take}
 use Rattle.std.proofs.lemmas.List.{length-replicate}
-use Rattle.std.specs.Prelude.{◌⊎◌, All, nat_lt, ◌/◌, ◌%◌, ◌^◌, unwrap_or, slice_get, ◌&&◌, is_some, IsSome, if◌then◌else◌, nat_le, ◌==◌, bytes_eq, codes}
+use Rattle.std.specs.Prelude.{All, nat_lt, ◌/◌, ◌%◌, ◌^◌, unwrap_or, slice_get, ◌&&◌, is_some, IsSome, if◌then◌else◌, nat_le, ◌==◌, bytes_eq, codes}
 use Rattle.std.specs.Str.{IsUtf8, is_utf8, encode_utf8_all, all_scalars}
 use Rattle.std.specs.Char.{encode_utf8, IsScalar}
 use Rattle.std.specs.List.{slice_split, onto_first}
 use Rattle.std.specs.Int.{w32, to_be_bytes}
-use Rattle.std.proofs.lemmas.List.Elements.{All-from_recursion, All-cons, All-append, All-take, All-replicate}
+use Rattle.std.proofs.lemmas.List.Elements.{All-cons, All-append, All-take, All-replicate}
 use Rattle.std.proofs.lemmas.Bool.{cases_lt}
 use Rattle.std.proofs.lemmas.Bool.Decides.{nat_tests}
 use Rattle.gaz_num.proofs.CalendarLemmas.{and_left, and_right}
@@ -121,7 +121,7 @@ passed : (why : Reason) (b : Bool) (rest : List (Reason × Bool)) → first_fail
 passed why true rest is = (refl, is)
 passed why false rest is = absurd (cc)
 
-no_comment : (kind : Kind) (line : List ℕ) → IsSome (key_in kind line) → is_comment kind line ≡ false
+pub no_comment : (kind : Kind) (line : List ℕ) → IsSome (key_in kind line) → is_comment kind line ≡ false
 no_comment kind.Row line keyed = refl
 no_comment kind.RowDelete line keyed = refl
 no_comment kind.Alt line keyed = refl
@@ -163,14 +163,40 @@ place_key_fits id = record {
   bytes = byte_fits 1 (to_be_bytes w32 id ++ replicate 27 0) (omega arith) (append_fits (to_be_bytes w32 id) (replicate 27 0) (four_fit id) (zeros_fit 27));
 }
 
+pub alternate_key_fits : (id : ℕ) → IsKey (alternate_key id)
+unfolding alternate_key
+alternate_key_fits id = record {
+  size = refl;
+  bytes = byte_fits 2 (to_be_bytes w32 id ++ replicate 27 0) (omega arith) (append_fits (to_be_bytes w32 id) (replicate 27 0) (four_fit id) (zeros_fit 27));
+}
+
+pub country_key_fits : (code : List ℕ) → AreBytes code → IsKey (country_key (first_bytes 4 code))
+unfolding country_key
+country_key_fits code fits =
+    let first = first_bytes 4 code in
+    let size = first_size 4 code in
+    record {
+      size = omega (arith, size, length-append first (replicate 27 0), length-replicate {A = ℕ} 27 0);
+      bytes = byte_fits 5 (first ++ replicate 27 0) (omega arith) (append_fits first (replicate 27 0) (first_fits 4 code fits) (zeros_fit 27));
+    }
+
+pub code_key_fits : (code : List ℕ) (slot : ℕ) → AreBytes code → IsKey (code_key (first_bytes 23 code) slot)
+unfolding code_key
+code_key_fits code slot fits =
+    let first = first_bytes 23 code in
+    let size = first_size 23 code in
+    let own = to_be_bytes w32 slot in
+    record {
+      size = omega (arith, size, length-append (first ++ replicate 4 0) own, length-append first (replicate 4 0), length-replicate {A = ℕ} 4 0);
+      bytes = byte_fits 6 (first ++ replicate 4 0 ++ own) (omega arith) (append_fits (first ++ replicate 4 0) own
+      (append_fits first (replicate 4 0) (first_fits 23 code fits) (zeros_fit 4)) (four_fit slot));
+    }
+
 -- the key by which a line stands at its place has 32 bytes
 pub key_fits : (table : Table) (slot : ℕ) (line : List ℕ) → IsLine (kind_in table) line → IsKey (key_at table slot line)
-unfolding alternate_key link_key country_key code_key
+unfolding link_key
 key_fits Rows slot line is = place_key_fits (id_at 1 line)
-key_fits Alternates slot line is = record {
-  size = refl;
-  bytes = byte_fits 2 (to_be_bytes w32 (id_at 1 line) ++ replicate 27 0) (omega arith) (append_fits (to_be_bytes w32 (id_at 1 line)) (replicate 27 0) (four_fit (id_at 1 line)) (zeros_fit 27));
-}
+key_fits Alternates slot line is = alternate_key_fits (id_at 1 line)
 key_fits Links slot line is =
     let class = class_in (column 3 line) in
     let parent = to_be_bytes w32 (id_at 1 line) in
@@ -180,19 +206,5 @@ key_fits Links slot line is =
       bytes = byte_fits 3 (child ++ (class ∷ parent ++ replicate 22 0)) (omega arith) (append_fits child (class ∷ parent ++ replicate 22 0) (four_fit (id_at 2 line))
       (byte_fits class (parent ++ replicate 22 0) (class_fits (column 3 line)) (append_fits parent (replicate 22 0) (four_fit (id_at 1 line)) (zeros_fit 22))));
     }
-key_fits Countries slot line is =
-    let first = first_bytes 4 (column 1 line) in
-    let size = first_size 4 (column 1 line) in
-    record {
-      size = omega (arith, size, length-append first (replicate 27 0), length-replicate {A = ℕ} 27 0);
-      bytes = byte_fits 5 (first ++ replicate 27 0) (omega arith) (append_fits first (replicate 27 0) (first_fits 4 (column 1 line) (column_fits 1 line (line_fits (kind_in Countries) line is))) (zeros_fit 27));
-    }
-key_fits Codes slot line is =
-    let first = first_bytes 23 (column 1 line) in
-    let size = first_size 23 (column 1 line) in
-    let own = to_be_bytes w32 slot in
-    record {
-      size = omega (arith, size, length-append (first ++ replicate 4 0) own, length-append first (replicate 4 0), length-replicate {A = ℕ} 4 0);
-      bytes = byte_fits 6 (first ++ replicate 4 0 ++ own) (omega arith) (append_fits (first ++ replicate 4 0) own
-      (append_fits first (replicate 4 0) (first_fits 23 (column 1 line) (column_fits 1 line (line_fits (kind_in Codes) line is))) (zeros_fit 4)) (four_fit slot));
-    }
+key_fits Countries slot line is = country_key_fits (column 1 line) (column_fits 1 line (line_fits (kind_in Countries) line is))
+key_fits Codes slot line is = code_key_fits (column 1 line) slot (column_fits 1 line (line_fits (kind_in Codes) line is))

@@ -19,22 +19,23 @@ pub record IsThatOf (slots : Slots) (gaz : Gazetteer) (table : Table) (key : Lis
   pub there : Contains (lines_in gaz table) line
   pub is : line_key slots table line ≡ key
 
-pub that_of : (slots : Slots) (gaz : Gazetteer) (table : Table) (key : List ℕ) → tag_of key ≡ tag_for table → IsKeyOf slots gaz key → IsThatOf slots gaz table key
-that_of slots gaz table key tag of =
+-- a key with a place is that of its line
+pub placed : (slots : Slots) (gaz : Gazetteer) (key : List ℕ) → has_place (tag_of key) ≡ true → (of : IsKeyOf slots gaz key) → line_key slots of.table of.line ≡ key
+placed slots gaz key has of =
     elim (contained (line_key slots of.table of.line) (more_keys of.table of.line) key of.among) [
-      | inl is ↦
-        let same : of.table ≡ table = tags_differ of.table table (sym (tag_at of.table (slots (column 1 of.line)) of.line) ∙ ap tag_of is ∙ tag) in
-        record {
-          line = of.line;
-          there = subst (λ t. Contains (lines_in gaz t) of.line) same of.there;
-          is = subst (λ t. line_key slots t of.line ≡ key) same is;
-        }
-      | inr more ↦
-        let placeless = more_placeless of.table of.line key more in
-        let has = ap has_place tag ∙ tag_has_place table in
-        absurd (false_is_true (sym placeless ∙ has))
+      | inl is ↦ is
+      | inr more ↦ absurd (false_is_true (sym (more_placeless of.table of.line key more) ∙ has))
     ]
   where
     false_is_true : false ≡ true → ⊥
     false_is_true is = cc
 
+pub that_of : (slots : Slots) (gaz : Gazetteer) (table : Table) (key : List ℕ) → tag_of key ≡ tag_for table → IsKeyOf slots gaz key → IsThatOf slots gaz table key
+that_of slots gaz table key tag of =
+    let is = placed slots gaz key (ap has_place tag ∙ tag_has_place table) of in
+    let same : of.table ≡ table = tags_differ of.table table (sym (tag_at of.table (slots (column 1 of.line)) of.line) ∙ ap tag_of is ∙ tag) in
+    record {
+      line = of.line;
+      there = subst (λ t. Contains (lines_in gaz t) of.line) same of.there;
+      is = subst (λ t. line_key slots t of.line ≡ key) same is;
+    }

@@ -48,7 +48,7 @@ apart table x y less more =
     never is = cc
 
 -- pages have one list of pairs
-one_tree : (pages : ℕ → List ℕ) (height top : ℕ) (a b : List Pair) → IsTop pages height top a → IsTop pages height top b → a ≡ b
+pub one_tree : (pages : ℕ → List ℕ) (height top : ℕ) (a b : List Pair) → IsTop pages height top a → IsTop pages height top b → a ≡ b
 one_tree pages height top a b first second =
     let tall = first.tall in
     let also = second.tall in

@@ -1,5 +1,5 @@
 -- What the calls of a store promise.
-use Rattle.std.specs.Prelude.{◌≡◌, ◌≤◌, ◌+◌, ◌^◌, min, ℕ, List, [], take, length, Option, None, Some, option_map, Result, Ok, Err, OnOk, OnErr, IfErr, IfOk, IsTrue}
+use Rattle.std.specs.Prelude.{◌≡◌, ◌≤◌, ℕ, Bool, List, [], take, Option, option_map, Result, Err, OnOk, IfErr, IsTrue}
 use Rattle.gaz_plain.specs.Gazetteer.{Gazetteer}
 use Rattle.gaz_num.specs.declared.words.Table.{Table}
 use Rattle.gaz_plain.specs.Gazetteer.{LineFault, malformed, full, line_with}
@@ -41,12 +41,34 @@ abbrev pub FailsOnce : {T : Type 0} → ℕ → ℕ → Result T AskFault → Ty
 FailsOnce before now (Err ask.Failed) = RisesOnce before now
 FailsOnce before now other = now ≡ before
 
--- What a question leaves: the same pages, at most so many of them read, and none changed.
+-- Memory is wanting from now on where the answer says so, and else as it was.
+abbrev pub StarvesBy : {T : Type 0} → Bool → Bool → Result T AskFault → Type 0
+StarvesBy before now (Err ask.Memory) = IsTrue now
+StarvesBy before now other = now ≡ before
+
+-- The answer has a cause: the pages failed only where their count of faults rose, and memory was wanting only where they say so.
+pub record HasAskCause {T : Type 0} (old new : PagesView) (result : Result T AskFault) : Type 0 where
+  pub grows : old.faults ≤ new.faults
+  pub counted : FailsOnce old.faults new.faults result
+  pub starved : StarvesBy old.is_starved new.is_starved result
+
+-- P holds, unless the pages failed.
+abbrev pub UnlessFailed : {T : Type 0} → Result T AskFault → Type 0 → Type 0
+UnlessFailed (Err ask.Failed) P = Unit
+UnlessFailed other P = P
+
+-- What a question leaves: the same pages, of which at most so many were read and none was changed. It takes no memory.
 pub record HasAsked {T : Type 0} (most : ℕ) (old new : PagesView) (result : Result T AskFault) : Type 0 where
-  pub same : OnOk result (IsTrue old.is_told → SamePages old new)
+  pub same : UnlessFailed result (IsTrue old.is_told → SamePages old new)
   pub counts : Counts most 0 old new
-  pub faults : FailsOnce old.faults new.faults result
+  pub unchanged : new.changed ≡ old.changed
+  pub cause : HasAskCause old new result
   pub no_memory : IfErr result TakesNoMemory
+
+-- The answer is no damage.
+abbrev pub IsUndamaged : AskFault → Type 0
+IsUndamaged (ask.Damaged page) = ⊥
+IsUndamaged other = Unit
 
 -- Where the pages stand for a gazetteer, the fault is no damage.
 abbrev pub IsSoundOver : PagesView → Root → AskFault → Type 0

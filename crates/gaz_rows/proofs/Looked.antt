@@ -1,0 +1,125 @@
+-- A look at the next line of a scan, and looks one after the other.
+use Rattle.std.proofs.Common.{◌≡◌, ◌<◌, ◌≤◌, ◌+◌, ◌*◌, ℕ, suc, List, [], ◌∷◌, length, refl, sym, ◌∙◌, ap, arith, subst, true, false, Option, Some, None, Result, Ok, Err, take}
+use Rattle.std.proofs.Math.Nat.{mul-le-mul_left}
+use Rattle.std.specs.Prelude.{IsTrue, IsSome, All, find, IfOk, IfErr, Bool}
+use Rattle.gaz_page.specs.Pages.{PagesView, SamePages, Counts}
+use Rattle.gaz_heap.specs.Place.{record_at}
+use Rattle.gaz_leaf.specs.Node.{Pair, key_of}
+use Rattle.gaz_scan.specs.declared.scan.Scan.{Scan}
+use Rattle.gaz_scan.specs.Scan.{Comes, IsGiven}
+use Rattle.gaz_rows.specs.declared.fault.AskFault.{AskFault}
+use Rattle.gaz_rows.specs.declared.fault.AskFault.TheVariants.{Failed, Damaged, Memory}
+use Rattle.gaz_rows.specs.declared.codes.Look.{Look}
+use Rattle.gaz_rows.specs.declared.codes.Look.TheVariants.{Last, Found, Other}
+use Rattle.gaz_rows.specs.Store.{HasAsked, HasAskCause, UnlessFailed, FailsOnce, StarvesBy, IsSound, IsAnswer}
+use Rattle.gaz_rows.specs.Found.{GivesNext, HaveRecords, ArePassed, Looks, coded_in, has_code, records_of}
+
+pub none_left : (code : List ℕ) (old new : ℕ → List ℕ) (scan : Scan) (left : List Pair) → GivesNext old new scan left (Ok None) → coded_in code old left ≡ None
+none_left code old new scan left gives = ap (coded_in code old) gives.0
+
+pub failed_soundly : (old new : ℕ → List ℕ) (scan : Scan) (left : List Pair) (fault : AskFault) → GivesNext old new scan left (Err fault) → IsSound fault
+failed_soundly old new scan left Failed gives = tt
+failed_soundly old new scan left (Damaged page) gives = absurd gives
+failed_soundly old new scan left Memory gives = absurd gives
+
+-- a pair was given, at whose place a record stands
+module _ (code : List ℕ) (old mid new : ℕ → List ℕ) (scan : Scan) (left : List Pair) (given : List ℕ × ℕ) (mid_is : mid ≡ old) (have : HaveRecords old left) (gives : IsGiven mid scan left given) where
+  all_have : HaveRecords old (record { key = key_of given.0; value = given.1 } ∷ gives.rest)
+  all_have = subst (HaveRecords old) gives.first have
+
+  pub record_given : IsSome (record_at mid given.1)
+  record_given = subst (λ pages. IsSome (record_at pages given.1)) (sym mid_is) (all_have 0 (record { key = 0; value = 0 }) (omega arith))
+
+  module _ (line : List ℕ) (there : IsSome (record_at mid given.1) → record_at mid given.1 ≡ Some line) where
+    here : record_at old given.1 ≡ Some line
+    here = subst (λ pages. record_at pages given.1 ≡ Some line) mid_is (there record_given)
+
+    pub line_coded : has_code code line ≡ true → coded_in code old left ≡ Some line
+    line_coded is = ap (coded_in code old) gives.first ∙ rw (here, is) refl
+
+    pub line_passed : has_code code line ≡ false → new ≡ mid → ArePassed 1 code old new scan left
+    line_passed is new_is =
+        let same : new ≡ old = new_is ∙ mid_is in
+        record {
+          rest = gives.rest;
+          comes = subst (λ pages. Comes pages scan gives.rest) (sym new_is) gives.comes;
+          have = subst (λ pages. HaveRecords pages gives.rest) (sym same) (λ k d within. all_have (suc k) d (omega (arith, within)));
+          same = ap (λ pages. coded_in code pages gives.rest) same ∙ sym (ap (coded_in code old) gives.first ∙ rw (here, is) refl);
+          count = ap length gives.first ∙ omega arith;
+        }
+
+-- ---- one call after the other
+
+pub passed_none : (code : List ℕ) (pages : ℕ → List ℕ) (scan : Scan) (left : List Pair) → Comes pages scan left → HaveRecords pages left → ArePassed 0 code pages pages scan left
+passed_none code pages scan left comes have = record { rest = left; comes = comes; have = have; same = refl; count = omega arith }
+
+pub passed_on : (turns : ℕ) (code : List ℕ) (old mid new : ℕ → List ℕ) (scan scan_now : Scan) (left : List Pair) (p : ArePassed turns code old mid scan left) → ArePassed 1 code mid new scan_now p.rest → ArePassed (turns + 1) code old new scan_now left
+passed_on turns code old mid new scan scan_now left p q =
+    let before = p.count in
+    let now = q.count in
+    record { rest = q.rest; comes = q.comes; have = q.have; same = q.same ∙ p.same; count = omega (arith, before, now) }
+
+unless : {T : Type 0} (result : Result T AskFault) (P Q : Type 0) → (P → Q) → UnlessFailed result P → UnlessFailed result Q
+unless (Ok given) P Q to is = to is
+unless (Err Failed) P Q to is = tt
+unless (Err (Damaged page)) P Q to is = to is
+unless (Err Memory) P Q to is = to is
+
+pub asked_none : (v : PagesView) → HasAsked {T = Unit} 0 v v (Ok tt)
+asked_none v = record {
+  same = λ told. record { pages = refl; free = refl; fresh = refl };
+  counts = record { told = refl; read_only = refl; reads_grow = omega arith; reads = omega arith; changed = omega arith };
+  unchanged = refl;
+  cause = record { grows = omega arith; counted = refl; starved = refl };
+  no_memory = tt;
+}
+
+counts_on : (some more most : ℕ) (old mid new : PagesView) → some + more ≤ most → Counts some 0 old mid → Counts more 0 mid new → Counts most 0 old new
+counts_on some more most old mid new le a b =
+    let grow = a.reads_grow in let also = b.reads_grow in let few = a.reads in let again = b.reads in let one = a.changed in let two = b.changed in
+    record {
+      told = b.told ∙ a.told;
+      read_only = b.read_only ∙ a.read_only;
+      reads_grow = omega (arith, grow, also);
+      reads = omega (arith, few, again, le);
+      changed = omega (arith, one, two);
+    }
+
+same_on : (old mid new : PagesView) → SamePages old mid → SamePages mid new → SamePages old new
+same_on old mid new a b = record { pages = b.pages ∙ a.pages; free = b.free ∙ a.free; fresh = b.fresh ∙ a.fresh }
+
+module _ {S T : Type 0} (some more most : ℕ) (old mid new : PagesView) (given : S) where
+  pub asked_on : (result : Result T AskFault) → some + more ≤ most → HasAsked {T = S} some old mid (Ok given) → HasAsked more mid new result → HasAsked most old new result
+  asked_on result le a b =
+      let faults : mid.faults ≡ old.faults = a.cause.counted in
+      let starved : mid.is_starved ≡ old.is_starved = a.cause.starved in
+      let first = a.cause.grows in
+      let then = b.cause.grows in
+      record {
+        same = unless result (IsTrue mid.is_told → SamePages mid new) (IsTrue old.is_told → SamePages old new)
+            (λ is told. same_on old mid new (a.same told) (is (subst IsTrue (sym a.counts.told) told))) b.same;
+        counts = counts_on some more most old mid new le a.counts b.counts;
+        unchanged = b.unchanged ∙ a.unchanged;
+        cause = record {
+          grows = omega (arith, first, then);
+          counted = subst (λ n. FailsOnce n new.faults result) faults b.cause.counted;
+          starved = subst (λ s. StarvesBy s new.is_starved result) starved b.cause.starved;
+        };
+        no_memory = b.no_memory;
+      }
+
+-- what was asked, for an answer of another type
+pub asked_ok : {S T : Type 0} (most : ℕ) (old new : PagesView) (given : S) (other : T) → HasAsked most old new (Ok given) → HasAsked most old new (Ok other)
+asked_ok most old new given other a =
+    record { same = a.same; counts = a.counts; unchanged = a.unchanged; cause = record { grows = a.cause.grows; counted = a.cause.counted; starved = a.cause.starved }; no_memory = tt }
+
+pub asked_failed : {S T : Type 0} (most : ℕ) (old new : PagesView) (fault : AskFault) → HasAsked {T = S} most old new (Err fault) → HasAsked {T = T} most old new (Err fault)
+asked_failed most old new Failed a =
+    record { same = a.same; counts = a.counts; unchanged = a.unchanged; cause = record { grows = a.cause.grows; counted = a.cause.counted; starved = a.cause.starved }; no_memory = tt }
+asked_failed most old new (Damaged page) a =
+    record { same = a.same; counts = a.counts; unchanged = a.unchanged; cause = record { grows = a.cause.grows; counted = a.cause.counted; starved = a.cause.starved }; no_memory = tt }
+asked_failed most old new Memory a = absurd a.no_memory
+
+-- one more turn
+pub times : (k turns most : ℕ) → turns ≤ most → k * turns + k ≤ k * (most + 1)
+times k turns most le = let product : k * turns ≤ k * most = mul-le-mul_left k le in omega (arith, product)
