@@ -1,5 +1,5 @@
 -- A record of a slot was dropped: what becomes of all others.
-use Rattle.std.proofs.Common.{IsTrue, ◌≡◌, ◌≢◌, ◌≤◌, ℕ, true, false, List, [], ◌∷◌, sym, ap, ◌∙◌, subst, arith, inl, inr, Some, None}
+use Rattle.std.proofs.Common.{◌≡◌, ◌≢◌, ◌≤◌, ℕ, true, false, List, [], ◌∷◌, sym, ap, ◌∙◌, subst, arith, inl, inr, Some, None}
 use Rattle.std.proofs.lemmas.Bool.{cases_Bool, cases_eq, cases_lt, false_from_ne_true}
 use Rattle.gaz_page.specs.Free.{free_link}
 use Rattle.gaz_page.specs.Pages.{PagesView}
@@ -63,9 +63,6 @@ others_same number slot place old new o other earlier holds differs =
           }
     ]
 
-not_chain : (place : ℕ) → is_chain place ≡ false → IsTrue (is_chain place) → ⊥
-not_chain place no_ chain = cc
-
 -- what is supposed of pages of which a record page changed still holds
 pub heap_kept : (number current : ℕ) (old new : PagesView) (free : List ℕ) → is_record_page number (old.page number) ≡ true → ((n : ℕ) → n ≢ number → new.page n ≡ old.page n) → new.free ≡ old.free → new.fresh ≡ old.fresh
     → IsHeap old current free → IsHeap new current free
@@ -110,7 +107,7 @@ cleared_drops number slot place current old new free c page at no_ use_ heap sta
           let is : n ≡ number = elim (subst (λ (l : List ℕ). Among l n) mine among) [ inl is ↦ is | inr never ↦ absurd never ] in
           let left = stays (λ same. away (is ∙ same)) in
           absurd (nothing _ _ (subst (λ (m : ℕ). (is_record_page m (new.page m) ≡ true → (k : ℕ) → slot_record (new.page m) k ≡ None)) is empty c.cleared.form left.0) (used_record (new.page number) left.0 left.1 left.2));
-      pieces = λ chain n among. absurd (not_chain place no_ chain);
+      whole = λ long. absurd (let wrong = sym long ∙ o.no_ in cc);
       stays = λ n out. c.others n (λ is. out (subst (λ (l : List ℕ). Among l n) (sym mine) (inl is)));
       fresh = c.fresh;
       slots = λ other slotted differs. slots_same number slot place old new other o (false_from_ne_true (is_chain other) slotted) differs;
@@ -153,7 +150,7 @@ given_drops number slot place current old new free c page at no_ use_ heap away 
       more = λ n among. inr among;
       given = λ n among. elim among [ inl is ↦ inr (subst (λ (l : List ℕ). Among l n) (sym mine) (inl is)) | inr later ↦ inl later ];
       emptied = λ n among away_ empty. inl (elim (subst (λ (l : List ℕ). Among l n) mine among) [ inl is ↦ is | inr never ↦ absurd never ]);
-      pieces = λ chain n among. absurd (not_chain place no_ chain);
+      whole = λ long. absurd (let wrong = sym long ∙ o.no_ in cc);
       stays = λ n out. g.others n (λ is. out (subst (λ (l : List ℕ). Among l n) (sym mine) (inl is)));
       fresh = g.fresh;
       slots = λ other slotted differs. slots_same number slot place old new other o (false_from_ne_true (is_chain other) slotted) differs;

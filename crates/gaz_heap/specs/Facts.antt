@@ -89,8 +89,8 @@ pub record Drops (old new : PagesView) (current : ℕ) (free : List ℕ) (place 
   pub given : (n : ℕ) → Among after n → Among free n ⊎ Among (pages_of old.page place) n
   -- each page of the place that isn't the one for new records, and has no used slot left, is free
   pub emptied : (n : ℕ) → Among (pages_of old.page place) n → n ≢ current → (is_record_page n (new.page n) ≡ true → (slot : ℕ) → slot_record (new.page n) slot ≡ None) → Among after n
-  -- each page of a long record is free
-  pub pieces : IsTrue (is_chain place) → (n : ℕ) → Among (pages_of old.page place) n → Among after n
+  -- a long record gives all its pages
+  pub whole : IsTrue (is_chain place) → (n : ℕ) → Among (pages_of old.page place) n → Among after n
   -- all pages but the place's stay, and none is newly taken
   pub stays : (n : ℕ) → (Among (pages_of old.page place) n → ⊥) → new.page n ≡ old.page n
   pub fresh : new.fresh ≡ old.fresh

@@ -26,7 +26,7 @@ use Rattle.gaz_rows.proofs.LaidRoom.{room_stays}
 
 module _ (old new : PagesView) (root : Root) (pairs : List Pair) (current : ℕ) (kept places : List ℕ) (place : ℕ)
     (laid : IsLaid old root pairs kept places) (there : Contains places place) (current_is : (current ≡ 0) ⊎ Contains kept current) (alone : Contains kept (page_of place) → page_of place ≡ current)
-    (drops : Drops old new current laid.tree.chain.frees place) (given : IsTrue (is_chain place) → (n : ℕ) → Among (pages_of old.page place) n → Among drops.after n) where
+    (drops : Drops old new current laid.tree.chain.frees place) where
   left : List ℕ
   left = all_but place places
 
@@ -127,7 +127,7 @@ module _ (old new : PagesView) (root : Root) (pairs : List Pair) (current : ℕ)
     | inr differs ↦ (chain p, (among_rest place places p is.0 differs, is.1, subst (λ (l : List ℕ). Contains l n) (sym (still p is.0 differs).pages) is.2))
     | inl same ↦
         let among = among_of (pages_of old.page place) n (subst (λ (q : ℕ). Contains (pages_of old.page q) n) same is.2) in
-        (free, contains_of drops.after n (given (subst (λ (q : ℕ). IsTrue (is_chain q)) same is.1) n among))
+        (free, contains_of drops.after n (drops.whole (subst (λ (q : ℕ). IsTrue (is_chain q)) same is.1) n among))
   ]
   use_now free n some is =
       (free, contains_of drops.after n (drops.more n (free_of old root pairs kept places laid n is)))
@@ -158,4 +158,4 @@ module _ (old new : PagesView) (root : Root) (pairs : List Pair) (current : ℕ)
   }
 
 pub after_record_dropped : AfterRecordDropped
-after_record_dropped old new root pairs current kept places place laid there current_is alone drops given = dropped old new root pairs current kept places place laid there current_is alone drops given
+after_record_dropped old new root pairs current kept places place laid there current_is alone drops = dropped old new root pairs current kept places place laid there current_is alone drops

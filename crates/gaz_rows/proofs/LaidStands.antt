@@ -1,16 +1,13 @@
 -- Pages that stand for a gazetteer are laid.
-use Rattle.std.proofs.Common.{◌≡◌, ◌≤◌, ◌-◌, ◌^◌, ℕ, suc, Bool, true, false, List, [], ◌∷◌, Some, refl, sym, ap, ◌∙◌, subst, arith, inl, inr}
-use Rattle.std.specs.Prelude.{Contains, All, option_and_then, bytes_eq, if◌then◌else◌}
-use Rattle.std.specs.List.{list_any}
+use Rattle.std.proofs.Common.{◌≡◌, ◌≤◌, ◌-◌, ◌^◌, ℕ, suc, true, List, [], ◌∷◌, Some, sym, ap, ◌∙◌, subst, arith, inl, inr}
+use Rattle.std.specs.Prelude.{Contains, option_and_then}
 use Rattle.std.proofs.lemmas.Bool.{cases_Bool}
-use Rattle.std.proofs.lemmas.Slice.Eq.{bytes_eq-Decides}
-use Rattle.std.proofs.lemmas.Map.Views.{Contains-from_any}
 use Rattle.gaz_num.specs.Pieces.{column}
 use Rattle.gaz_plain.specs.Gazetteer.{Gazetteer}
 use Rattle.gaz_page.specs.declared.tree_root.Root.{Root}
 use Rattle.gaz_page.specs.Pages.{PagesView}
 use Rattle.gaz_page.specs.Chains.{Each, InUse}
-use Rattle.gaz_leaf.specs.Node.{Pair, key_of}
+use Rattle.gaz_leaf.specs.Node.{Pair}
 use Rattle.gaz_tree.specs.Pairs.{Within, lookup}
 use Rattle.gaz_tree.specs.Put.{HasChain}
 use Rattle.gaz_tree.proofs.Lists.{lookup-same, lookup-other}
@@ -24,6 +21,7 @@ use Rattle.gaz_rows.specs.Index.{line_key}
 use Rattle.gaz_rows.specs.Stands.{tree, slots, chain, free, StandsForBut, value_in, places_in, tag_in}
 use Rattle.gaz_rows.specs.Laid.{IsLaid, ends_of, AreLaid}
 use Rattle.gaz_rows.proofs.Counting.{map_from, passed}
+use Rattle.gaz_rows.proofs.Got.{value_is}
 use Rattle.gaz_rows.proofs.RoomPairs.{placed, place_of_line}
 use Rattle.gaz_rows.proofs.LaidForms.{chain_linked, tree_chain, contains_of}
 use Rattle.gaz_rows.proofs.LaidParts.{slots_at}
@@ -38,19 +36,6 @@ value_there low high (q ∷ qs) p rising has = elim (contained q qs p has) [
       (omega (arith, more.0, rising.0), lookup-other p.key q qs (λ is. omega (arith, is, more.0)) ∙ more.1)
 ]
 
--- a key with a place doesn't wait, so its value is the tree's
-tree_value : (waiting : List (List ℕ)) (pairs : List Pair) (key : List ℕ) → All (λ k. has_place (tag_of k) ≡ false) waiting → has_place (tag_of key) ≡ true → value_in waiting pairs key ≡ lookup (key_of key) pairs
-tree_value waiting pairs key placeless has = by (list_any (bytes_eq key) waiting) refl
-  where
-    false_is_true : false ≡ true → ⊥
-    false_is_true is = cc
-
-    by : (b : Bool) → list_any (bytes_eq key) waiting ≡ b → (if b then Some 0 else lookup (key_of key) pairs) ≡ lookup (key_of key) pairs
-    by false is = refl
-    by true is =
-        let there = Contains-from_any (λ a b same. (bytes_eq-Decides a b).0 same) key waiting is in
-        absurd (false_is_true (sym (subst (λ k. has_place (tag_of k) ≡ false) there.2 (placeless there.0 key there.1)) ∙ has))
-
 module _ (waiting : List (List ℕ)) (gaz : Gazetteer) (v : PagesView) (root : Root) (stands : StandsForBut waiting gaz v.page (ends_of v root)) where
   rising : Within 0 (2 ^ 256) stands.pairs
   rising = subst (Within 0 (2 ^ 256)) stands.tree.holds (head_within v.page stands.tree.level root.top 0 (2 ^ 256) stands.tree.head)
@@ -63,7 +48,7 @@ module _ (waiting : List (List ℕ)) (gaz : Gazetteer) (v : PagesView) (root : R
       let placed_key : has_place (tag_of key) ≡ true = ap has_place (tag_at of.table (stands.slots (column 1 of.line)) of.line) ∙ tag_has_place of.table in
       let there = (passed (λ pair. has_place (tag_in pair.key)) stands.pairs p has).0 in
       let value : value_in waiting stands.pairs key ≡ Some p.value =
-      tree_value waiting stands.pairs key stands.placeless placed_key ∙ ap (λ n. lookup n stands.pairs) of.is ∙ (value_there 0 (2 ^ 256) stands.pairs p rising there).1 in
+      value_is waiting gaz v.page (ends_of v root) stands key placed_key ∙ ap (λ n. lookup n stands.pairs) of.is ∙ (value_there 0 (2 ^ 256) stands.pairs p rising there).1 in
       (of.line, sym (ap (option_and_then (record_at v.page)) value) ∙ stands.indexed.lines of.table of.line of.there)
 
   record_there : (place : ℕ) → Contains (places_in stands.pairs) place → (line : List ℕ) × (record_at v.page place ≡ Some line)

@@ -10,42 +10,13 @@ use Rattle.gaz_heap.specs.Place.{page_of, record_at}
 use Rattle.gaz_heap.specs.Facts.{IsHeap, Puts, Drops, PutFails}
 use Rattle.gaz_heap.specs.Heap.{HasUsed, DropDamage}
 use Rattle.gaz_keys.proofs.Tags.{contained, contained_none}
-use Rattle.gaz_rows.specs.Stands.{Use, tree, slots, chain, free, IsFor, AreUsedOnce}
 use Rattle.gaz_rows.specs.Laid.{IsLaid, LaidWith, HasRoom, ends_of}
 use Rattle.gaz_rows.specs.Work.{HasAdded, HasDropped}
 use Rattle.gaz_rows.proofs.Members.{head_is_in, tail_is_in}
+use Rattle.gaz_rows.proofs.LaidKept.{after_root}
 use Rattle.gaz_rows.proofs.LaidParts.{heap_of}
 use Rattle.gaz_rows.proofs.LaidPut.{after_record_put_alone}
 use Rattle.gaz_rows.proofs.LaidDrop.{after_record_dropped}
-
--- What is laid doesn't hang on the page for new records that the root names.
-pub laid_by : (v : PagesView) (root : Root) (heap : ℕ) (pairs : List Pair) (kept places : List ℕ) → IsLaid v root pairs kept places → IsLaid v (record root { heap = heap }) pairs kept places
-laid_by v root heap pairs kept places laid =
-    let once = laid.used_once in
-    record {
-      tree = laid.tree;
-      held = laid.held;
-      used_once = record {
-        frees = once.frees;
-        free_chain = once.free_chain;
-        used = λ n some below. let was = once.used n some below in (was.0, on was.0 n was.1);
-        once = λ n one other is also. once.once n one other (back one n is) (back other n also);
-        in_range = λ n what is. once.in_range n what (back what n is);
-        in_form = once.in_form;
-        no_more = once.no_more;
-      };
-    }
-  where
-    on : (what : Use) (n : ℕ) → IsFor v.page (ends_of v root) kept places laid.used_once.frees what n → IsFor v.page (ends_of v (record root { heap = heap })) kept places laid.used_once.frees what n
-    on tree n is = is
-    on slots n is = is
-    on (chain p) n is = is
-    on free n is = is
-    back : (what : Use) (n : ℕ) → IsFor v.page (ends_of v (record root { heap = heap })) kept places laid.used_once.frees what n → IsFor v.page (ends_of v root) kept places laid.used_once.frees what n
-    back tree n is = is
-    back slots n is = is
-    back (chain p) n is = is
-    back free n is = is
 
 -- What is laid has records by the page that the root names.
 pub is_heap : (v : PagesView) (root : Root) (pairs : List Pair) (places : List ℕ) (laid : IsLaid v root pairs (root.heap ∷ []) places) → IsHeap v root.heap laid.tree.chain.frees
@@ -58,7 +29,7 @@ pub has_added : (old new : PagesView) (root : Root) (now : ℕ) (pairs : List Pa
 has_added old new root now pairs places laid bytes place behind puts =
     let put = after_record_put_alone old new root pairs root.heap now places bytes place laid behind puts in
     record {
-      laid = laid_by new root now pairs (now ∷ []) (place ∷ places) put.laid;
+      laid = after_root new root (record root { heap = now }) pairs (now ∷ []) (place ∷ places) put.laid refl refl;
       there = put.there;
       unlisted = put.unlisted;
       same = put.same;
@@ -86,7 +57,7 @@ only_one a b has = elim (contained a [] b has) [ inl is ↦ sym is | inr more �
 pub has_dropped : (old new : PagesView) (root : Root) (pairs : List Pair) (places : List ℕ) (laid : IsLaid old root pairs (root.heap ∷ []) places) (place : ℕ) → Contains places place
     → Drops old new root.heap laid.tree.chain.frees place → HasDropped old new root pairs places place
 has_dropped old new root pairs places laid place there drops =
-    let gone = after_record_dropped old new root pairs root.heap (root.heap ∷ []) places place laid there (inr (head_is_in root.heap [])) (only_one root.heap (page_of place)) drops drops.pieces in
+    let gone = after_record_dropped old new root pairs root.heap (root.heap ∷ []) places place laid there (inr (head_is_in root.heap [])) (only_one root.heap (page_of place)) drops in
     record { laid = gone.laid; same = gone.same; room = gone.room }
 
 -- A record that stands somewhere is dropped without damage.

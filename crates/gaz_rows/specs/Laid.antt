@@ -1,6 +1,6 @@
 -- Pages on which a tree and records are laid, each page for one thing, while lines come and go: what a call on the tree or on a record leaves
 -- of them. The lines at the places, and which keys the tree has, don't matter here.
-use Rattle.std.specs.Prelude.{◌≡◌, ◌⊎◌, ◌≤◌, ◌+◌, ◌==◌, ℕ, not, IsTrue, List, [], ◌∷◌, filter, Some, Contains}
+use Rattle.std.specs.Prelude.{◌≡◌, ◌⊎◌, ◌≤◌, ◌+◌, ◌==◌, ℕ, not, List, [], ◌∷◌, filter, Some, Contains}
 use Rattle.gaz_page.specs.declared.tree_root.Root.{Root}
 use Rattle.gaz_page.specs.Pages.{PagesView}
 use Rattle.gaz_leaf.specs.Node.{Pair}
@@ -8,8 +8,7 @@ use Rattle.gaz_tree.specs.declared.tree.Tree.{Tree}
 use Rattle.gaz_tree.specs.Put.{HasChain, left_of, Trades, Changes, TakesFew}
 use Rattle.gaz_tree.specs.Remove.{Returns}
 use Rattle.gaz_tree.specs.Stands.{Stands as IsTreeOf, OfTree}
-use Rattle.gaz_page.specs.Chains.{Among}
-use Rattle.gaz_heap.specs.Place.{record_at, page_of, pages_of, is_chain}
+use Rattle.gaz_heap.specs.Place.{record_at, page_of}
 use Rattle.gaz_heap.specs.Facts.{Holds, Puts, Drops}
 use Rattle.gaz_heap.specs.Heap.{HasUsed}
 use Rattle.gaz_plain.specs.Gazetteer.{Gazetteer}
@@ -80,15 +79,13 @@ pub record LaidWithout (old new : PagesView) (root : Root) (pairs : List Pair) (
   pub same : SameRecords old new (all_but place places)
   pub room : (n : ℕ) → HasRoom n old → HasRoom n new
 
--- A record is dropped. A record page goes with its last record, so no page of it is kept but the one for new records. A long record gives all its
--- pages.
+-- A record is dropped. A record page goes with its last record, so no page of it is kept but the one for new records.
 abbrev pub AfterRecordDropped : Type 0
 AfterRecordDropped =
     (old new : PagesView) (root : Root) (pairs : List Pair) (current : ℕ) (kept places : List ℕ) (place : ℕ)
     → (laid : IsLaid old root pairs kept places) → Contains places place → (current ≡ 0) ⊎ Contains kept current
     → (Contains kept (page_of place) → page_of place ≡ current)
-    → (drops : Drops old new current laid.tree.chain.frees place)
-    → (IsTrue (is_chain place) → (n : ℕ) → Among (pages_of old.page place) n → Among drops.after n)
+    → Drops old new current laid.tree.chain.frees place
     → LaidWithout old new root pairs kept places place
 
 -- what a call on the tree leaves, which makes this root of it and takes so many pages at most
