@@ -29,7 +29,7 @@ pub has_added : (old new : PagesView) (root : Root) (now : ℕ) (pairs : List Pa
 has_added old new root now pairs places laid bytes place behind puts =
     let put = after_record_put_alone old new root pairs root.heap now places bytes place laid behind puts in
     record {
-      laid = after_root new root (record root { heap = now }) pairs (now ∷ []) (place ∷ places) put.laid refl refl;
+      laid = after_root new root (record root { heap = now }) pairs (now ∷ []) (place ∷ places) refl refl put.laid;
       there = put.there;
       unlisted = put.unlisted;
       same = put.same;
@@ -61,7 +61,7 @@ has_dropped old new root pairs places laid place there drops =
     record { laid = gone.laid; same = gone.same; room = gone.room }
 
 -- A record that stands somewhere is dropped without damage.
-pub sound_drop : (old : PagesView) (place : ℕ) (bytes : List ℕ) → record_at old.page place ≡ Some bytes → (fault : PageFault) → DropDamage (record_at old.page place) (Err fault) → NotDamaged fault
+pub sound_drop : (old : PagesView) (place : ℕ) (bytes : List ℕ) → record_at old.page place ≡ Some bytes → (fault : PageFault) → DropDamage {T = Unit} (record_at old.page place) (Err fault) → NotDamaged fault
 sound_drop old place bytes is Failed damage = tt
 sound_drop old place bytes is Memory damage = tt
 sound_drop old place bytes is (Damaged page) damage = absurd (none_is_some (sym damage ∙ is))

@@ -65,3 +65,11 @@ pub record HasDropped (old new : PagesView) (root : Root) (pairs : List Pair) (p
   pub laid : IsLaid new root pairs (root.heap ∷ []) (all_but place places)
   pub same : SameRecords old new (all_but place places)
   pub room : (n : ℕ) → HasRoom n old → HasRoom n new
+
+-- a record was put for the one of a place, there or elsewhere
+pub record HasPutFor (old new : PagesView) (now : Root) (pairs : List Pair) (places : List ℕ) (bytes : List ℕ) (place place_now : ℕ) : Type 0 where
+  pub laid : IsLaid new now pairs (now.heap ∷ []) (place_now ∷ all_but place places)
+  pub there : record_at new.page place_now ≡ Some bytes
+  pub unlisted : Contains (all_but place places) place_now → ⊥
+  pub same : SameRecords old new (all_but place places)
+  pub room : (n : ℕ) → HasRoom (n + 17) old → HasRoom n new

@@ -1,14 +1,15 @@
 //! The parts of a step: single calls on the tree and on records.
-ghost use Rattle.std.specs.Prelude.{◌≡◌, ◌≤◌, ◌+◌, ◌*◌, ℕ, List, [], ◌∷◌, false, length, map, IsTrue, IfOk, IfErr, OnOk, Contains, bytes_eq};
+ghost use Rattle.std.specs.Prelude.{◌≡◌, ◌≤◌, ◌+◌, ◌*◌, ℕ, List, [], ◌∷◌, false, length, map, IsTrue, Some, IfOk, IfErr, OnOk, Contains, bytes_eq};
 ghost use Rattle.std.specs.List.{list_any};
 ghost use Rattle.gaz_page.specs.Pages.{Counts, Costs, HasPageCause, NotDamaged};
 ghost use Rattle.gaz_leaf.specs.Node.{Pair, key_of};
 ghost use Rattle.gaz_tree.specs.Pairs.{put, without};
+ghost use Rattle.gaz_heap.specs.Place.{record_at, is_chain};
 ghost use Rattle.gaz_rows.specs.Laid.{IsLaid, HasRoom};
-ghost use Rattle.gaz_rows.specs.Work.{put_zeros, without_all, missing_in, GoesOn, ChangesFew, HasNewTree, HasNewHeap, TurnsPairs, IsSoundWith, HasAdded, HasDropped};
+ghost use Rattle.gaz_rows.specs.Work.{put_zeros, without_all, missing_in, GoesOn, ChangesFew, HasNewTree, HasNewHeap, TurnsPairs, IsSoundWith, HasAdded, HasDropped, HasPutFor};
 
 use crate::RowStore;
-use gaz_heap::{drop_record, put as put_record};
+use gaz_heap::{drop_record, put as put_record, replace};
 use gaz_page::{PageFault, Pages};
 
 /// Whether a key is one of these.
@@ -156,5 +157,32 @@ impl<P: Pages> RowStore<P> {
     {
         let mut current = self.root.heap;
         drop_record(&mut self.pages, &mut current, place)
+    }
+
+    /// Puts a record for the one that stands at a place, there where it is no longer than that one or its page has room, and answers its place.
+    pub(crate) fn put_for(&mut self, place: u64, bytes: &[u8]) -> Result<u64, PageFault>
+        requires may_change { (P.view self.old.pages).is_read_only ≡ false }
+        requires short { length bytes.now ≤ 65535 }
+        ensures put { IfOk result (λ now. IsTrue (P.view self.old.pages).is_told → (pairs : List Pair) (places : List ℕ)
+            → IsLaid (P.view self.old.pages) self.old.root pairs (self.old.root.heap ∷ []) places → Contains places place
+            → HasPutFor (P.view self.old.pages) (P.view self.new.pages) self.new.root pairs places bytes.now place now) }
+        ensures stays { IfOk result (λ now. IsTrue (P.view self.old.pages).is_told → (earlier : List ℕ) → record_at (P.view self.old.pages).page place ≡ Some earlier
+            → (IsTrue (is_chain place) → ⊥) → length bytes.now ≤ length earlier → now ≡ place) }
+        ensures damaged { IsTrue (P.view self.old.pages).is_told → (pairs : List Pair) (places : List ℕ)
+            → IsLaid (P.view self.old.pages) self.old.root pairs (self.old.root.heap ∷ []) places → Contains places place → HasRoom 34 (P.view self.old.pages)
+            → IfErr result NotDamaged }
+        ensures root { HasNewHeap self.old.root self.new.root }
+        ensures costs { Costs 35 55 (P.view self.old.pages) (P.view self.new.pages) result }
+        ensures keeps { P.keeps self.old.pages self.new.pages }
+    {
+        match replace(&mut self.pages, place, bytes) {
+            Ok(true) => return Ok(place),
+            Ok(false) => {}
+            Err(fault) => return Err(fault),
+        }
+        match self.drop_record(place) {
+            Ok(()) => self.add_record(bytes),
+            Err(fault) => Err(fault),
+        }
     }
 }
