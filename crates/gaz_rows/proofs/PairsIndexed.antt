@@ -1,6 +1,6 @@
 -- The pairs and the records after a step hold the gazetteer after it.
-use Rattle.std.proofs.Common.{◌≡◌, ◌≢◌, ◌<◌, ◌≤◌, ◌+◌, ◌-◌, ◌^◌, ℕ, List, [], ◌∷◌, length, refl, sym, ◌∙◌, ap, subst, inl, inr, true, false, Bool, Option, Some, None, Ok}
-use Rattle.std.specs.Prelude.{◌⊎◌, Contains, IsSome, is_some, option_map, option_and_then, unwrap_or, if◌then◌else◌}
+use Rattle.std.proofs.Common.{◌≡◌, ◌+◌, ◌-◌, ◌^◌, ℕ, List, [], ◌∷◌, refl, sym, ◌∙◌, ap, subst, true, false, Bool, Option, Some, None, Ok}
+use Rattle.std.specs.Prelude.{Contains, IsSome, is_some, option_map, option_and_then, unwrap_or, if◌then◌else◌}
 use Rattle.std.proofs.lemmas.List.Elements.{All-contains}
 use Rattle.gaz_num.specs.Numbers.{id_in}
 use Rattle.gaz_num.specs.Pieces.{column}
@@ -10,7 +10,7 @@ use Rattle.gaz_num.specs.declared.words.Kind.TheVariants.{Row, RowDelete, Alt, A
 use Rattle.gaz_num.specs.declared.words.Kind.TheVariants as kind
 use Rattle.gaz_num.specs.declared.words.Table.{Table}
 use Rattle.gaz_num.specs.declared.words.Table.TheVariants.{Rows, Alternates}
-use Rattle.gaz_plain.specs.Gazetteer.{Gazetteer, IsGazetteer, IsLine, kind_in, key_of as key_of_table, after_line, table_of, is_delete, lines_in, limit_of, line_with, line_at}
+use Rattle.gaz_plain.specs.Gazetteer.{Gazetteer, IsLine, kind_in, key_of as key_of_table, after_line, table_of, is_delete, lines_in, line_with, line_at}
 use Rattle.gaz_plain.specs.Laws.{IsGazetteerOf}
 use Rattle.gaz_leaf.specs.Node.{Pair, key_of}
 use Rattle.gaz_tree.specs.Pairs.{Within, lookup}
@@ -18,9 +18,9 @@ use Rattle.gaz_keys.specs.Keys.{IsKey, place_key, alternate_key}
 use Rattle.gaz_keys.specs.Lines.{id_at, more_keys, IsKeyed}
 use Rattle.gaz_keys.proofs.KeysFit.{keys_fit}
 use Rattle.gaz_keys.proofs.Tags.{contained_none, tag_at}
-use Rattle.gaz_rows.specs.Index.{Slots, line_key, line_keys, IsKeyOf, IsIndexed, SlotsDiffer}
+use Rattle.gaz_rows.specs.Index.{Slots, line_key, IsIndexed, SlotsDiffer}
 use Rattle.gaz_rows.specs.Stands.{value_in, places_in, counts_of}
-use Rattle.gaz_rows.specs.Steps.{line_put, keys_by, more_by, IsOne, AreReplaced, KeysTell, LineKeysFit, KeysStepped, RecordsLeft, SameMembers, place_by, but_old, with_new, old_by, other_places, pairs_with, MeetsLine, counted, recounted, one_if}
+use Rattle.gaz_rows.specs.Steps.{line_put, keys_by, more_by, AreReplaced, KeysTell, LineKeysFit, KeysStepped, RecordsLeft, SameMembers, place_by, with_new, other_places, pairs_with, MeetsLine, counted, recounted, one_if}
 use Rattle.gaz_rows.proofs.Members.{head_is_in}
 use Rattle.gaz_rows.proofs.Keyed.{that_of, IsThatOf}
 use Rattle.gaz_rows.proofs.Fit.{place_key_fits, alternate_key_fits}

@@ -1,6 +1,6 @@
 -- What a step leaves stands for the gazetteer after it.
-use Rattle.std.proofs.Common.{◌≡◌, ◌<◌, ◌+◌, ◌-◌, ◌^◌, ℕ, List, [], ◌∷◌, refl, sym, ◌∙◌, ap, subst, arith, true, false, Bool, Option, Some, None, Ok}
-use Rattle.std.specs.Prelude.{Contains, IsSome, is_some, IsTrue, if◌then◌else◌}
+use Rattle.std.proofs.Common.{◌≡◌, ◌+◌, ◌-◌, ◌^◌, ℕ, List, [], ◌∷◌, refl, sym, ◌∙◌, ap, subst, arith, true, Some, None, Ok}
+use Rattle.std.specs.Prelude.{is_some, IsTrue, if◌then◌else◌}
 use Rattle.gaz_num.specs.Pieces.{column}
 use Rattle.gaz_num.specs.Check.{reason_against, key_in}
 use Rattle.gaz_num.specs.declared.words.Kind.{Kind}
@@ -9,14 +9,14 @@ use Rattle.gaz_num.specs.declared.words.Table.TheVariants.{Rows, Alternates, Lin
 use Rattle.gaz_page.specs.declared.root.LineCounts.{LineCounts}
 use Rattle.gaz_page.specs.declared.tree_root.Root.{Root}
 use Rattle.gaz_page.specs.Pages.{PagesView}
-use Rattle.gaz_plain.specs.Gazetteer.{Gazetteer, table_of, is_delete, is_one_line, line_with, after_line}
+use Rattle.gaz_plain.specs.Gazetteer.{Gazetteer, table_of, is_delete, is_one_line, after_line}
 use Rattle.gaz_heap.specs.Place.{record_at}
 use Rattle.gaz_tree.specs.Pairs.{Within}
 use Rattle.gaz_tree.proofs.Fans.{head_within}
 use Rattle.gaz_rows.specs.Index.{Slots}
-use Rattle.gaz_rows.specs.Stands.{StandsForBut, value_in, places_in}
+use Rattle.gaz_rows.specs.Stands.{StandsForBut, places_in}
 use Rattle.gaz_rows.specs.Laid.{IsLaid, AfterOrder, AreLaid, ends_of}
-use Rattle.gaz_rows.specs.Steps.{SameSlots, IsSlotOf, MeetsLine, RecordsLeft, IsLeft, line_put, old_by, other_places, place_by, but_old, with_new, pairs_with, pairs_after, counted, recounted, one_if}
+use Rattle.gaz_rows.specs.Steps.{SameSlots, IsSlotOf, MeetsLine, IsLeft, line_put, old_by, other_places, place_by, but_old, with_new, pairs_with, pairs_after, counted, recounted, one_if}
 use Rattle.gaz_rows.proofs.PairsIndexed.{next_gazetteer, next_counts, stepped_places, stepped_is_indexed}
 
 module _ (gaz : Gazetteer) (old : PagesView) (root : Root) (stands : StandsForBut [] gaz old.page (ends_of old root)) where
@@ -88,5 +88,6 @@ module _ (gaz : Gazetteer) (old : PagesView) (root : Root) (stands : StandsForBu
       where
         no_line : line_put kind line ≡ None
         no_line = ap (λ b. if b then None else Some line) deletes
+
         none_is_some : (l : List ℕ) → None ≡ Some l → ⊥
         none_is_some l e = cc

@@ -1,5 +1,5 @@
 -- What a look-up finds among the pairs after a step.
-use Rattle.std.proofs.Common.{◌≡◌, ◌≢◌, ℕ, List, [], ◌∷◌, refl, sym, ◌∙◌, ap, subst, inl, inr, true, false, Option, Some, None}
+use Rattle.std.proofs.Common.{◌≡◌, ◌≢◌, ℕ, List, [], refl, sym, ◌∙◌, ap, subst, inl, inr, true, false, Option, Some, None}
 use Rattle.std.specs.Prelude.{Contains}
 use Rattle.gaz_num.specs.Pieces.{column}
 use Rattle.gaz_num.specs.declared.words.Table.{Table}
@@ -94,9 +94,9 @@ module _ (slots : Slots) (table : Table) (old : Option (List ℕ)) (place high :
     zeros_now : (key : List ℕ) → Contains (more_keys table line) key → lookup (key_of key) now ≡ Some 0
     zeros_now key has = elim (is_in (more_by table old) key) [
       | inl also ↦
-        past key (all_new key (has_more key has)) (more_differ slots table (Some line) line key has) (λ c. (missing_had (more_by table old) (more_keys table line) key c).1 also)
-        ∙ all_out_elsewhere out key pairs all_out (all_new key (has_more key has)) (λ o. (missing_had (more_keys table line) (more_by table old) key o).1 has)
-        ∙ zeros_old key also
+          past key (all_new key (has_more key has)) (more_differ slots table (Some line) line key has) (λ c. (missing_had (more_by table old) (more_keys table line) key c).1 also)
+          ∙ all_out_elsewhere out key pairs all_out (all_new key (has_more key has)) (λ o. (missing_had (more_keys table line) (more_by table old) key o).1 has)
+          ∙ zeros_old key also
       | inr lacks ↦ zeros_there come key (put (pair_at Key place) base) all_come (all_new key (has_more key has)) (missing_has (more_by table old) (more_keys table line) key has lacks)
     ]
 

@@ -4,7 +4,6 @@ use Rattle.std.specs.Prelude.{◌⊎◌, Contains, option_and_then, IsSome, is_s
 use Rattle.std.proofs.lemmas.Slice.Eq.{bytes_eq-Decides}
 use Rattle.gaz_num.specs.Pieces.{column}
 use Rattle.gaz_num.specs.declared.words.Table.{Table}
-use Rattle.gaz_num.specs.declared.words.Table.TheVariants.{Codes}
 use Rattle.gaz_plain.specs.Gazetteer.{Gazetteer, lines_in}
 use Rattle.gaz_keys.specs.Keys.{IsKey}
 use Rattle.gaz_keys.specs.Lines.{more_keys}
@@ -65,6 +64,7 @@ is_placed value bytes key line is = by (value key) refl
   where
     none_is : None ≡ Some line → ⊥
     none_is e = cc
+
     by : (found : Option ℕ) → value key ≡ found → IsPlaced value bytes key line
     by None none = absurd (none_is (sym (ap (option_and_then bytes) none) ∙ is))
     by (Some place) some = record { place = place; at = some; stands = sym (ap (option_and_then bytes) some) ∙ is }
@@ -137,8 +137,8 @@ module _ (slots : Slots) (gaz next : Gazetteer) (table : Table) (old new : Optio
     only_there : (key : List ℕ) → IsKey key → IsSome (value_now key) → IsKeyOf slots next key
     only_there key fits some = elim (is_in (keys_by slots table new) key) [
       | inl has ↦
-        let of = by_line slots table new key has in
-        record { table = table; line = of.0; there = replaced.came of.0 of.1; among = of.2 }
+          let of = by_line slots table new key has in
+          record { table = table; line = of.0; there = replaced.came of.0 of.1; among = of.2 }
       | inr not_new ↦ elim (is_in (keys_by slots table old) key) [
         | inl has ↦ absurd (false_is_true (sym (ap is_some (keys.gone key has not_new)) ∙ some))
         | inr lacks ↦ still key lacks (held.only key fits (sym (ap is_some (keys.others key fits lacks not_new)) ∙ some))
@@ -149,8 +149,8 @@ module _ (slots : Slots) (gaz next : Gazetteer) (table : Table) (old new : Optio
     lines_there other line has = elim (stands_as other line has) [
       | inl one ↦ ap (option_and_then bytes_now) (new_at other line one) ∙ records.there line one.1
       | inr kept ↦
-        let was = is_placed value bytes (line_key slots other line) line (held.lines other line kept.there) in
-        ap (option_and_then bytes_now) (kept_same other line kept ∙ was.at) ∙ records.others other line was.place kept.there kept.isnt was.at ∙ was.stands
+          let was = is_placed value bytes (line_key slots other line) line (held.lines other line kept.there) in
+          ap (option_and_then bytes_now) (kept_same other line kept ∙ was.at) ∙ records.others other line was.place kept.there kept.isnt was.at ∙ was.stands
     ]
 
     zeros_there : (other : Table) (line key : List ℕ) → Contains (lines_in next other) line → Contains (more_keys other line) key → value_now key ≡ Some 0

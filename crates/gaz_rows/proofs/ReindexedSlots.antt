@@ -6,12 +6,10 @@ use Rattle.gaz_num.specs.Pieces.{column}
 use Rattle.gaz_num.specs.declared.words.Table.{Table}
 use Rattle.gaz_num.specs.declared.words.Table.TheVariants.{Codes}
 use Rattle.gaz_name.specs.Name.{first_bytes}
-use Rattle.gaz_plain.specs.Gazetteer.{Gazetteer, IsGazetteer, lines_in, line_with, line_at}
+use Rattle.gaz_plain.specs.Gazetteer.{Gazetteer, IsGazetteer, line_with, line_at}
 use Rattle.gaz_plain.proofs.KeyOrder.{same_key}
-use Rattle.gaz_keys.proofs.Alike.{one_table}
 use Rattle.gaz_rows.specs.Index.{Slots, SlotsDiffer}
 use Rattle.gaz_rows.specs.Steps.{AreReplaced, SameSlots, slot_with, IsFreeSlot, IsSlotOf}
-use Rattle.gaz_rows.proofs.Keyed.{some_inj}
 use Rattle.gaz_rows.proofs.ReindexedLines.{one_line, found_itself, find_has, has_key}
 
 none_is_some : {X : Type 0} (x : X) → None ≡ Some x → ⊥
@@ -28,6 +26,7 @@ slot_kept slots gaz code was are found = record {
   where
     there : Contains gaz.codes was × (has_key Codes code was ≡ true)
     there = find_has (has_key Codes code) gaz.codes was found
+
     same : column 1 was ≡ code
     same = same_key (column 1 was) code there.1
 
