@@ -16,10 +16,7 @@ use Rattle.gaz_rows.proofs.Numbers.{same_key}
 use Rattle.gaz_rows.proofs.Settled.{put_there, put_elsewhere}
 use Rattle.gaz_rows.proofs.Reindexed.{is_in}
 use Rattle.gaz_rows.proofs.Counting.{passed}
-use Rattle.gaz_rows.proofs.ReindexedLines.{filter_has}
-
-false_is_true : false ≡ true → ⊥
-false_is_true is = cc
+use Rattle.gaz_rows.proofs.ReindexedLines.{filter_has, false_is_true}
 
 -- ---- one key
 

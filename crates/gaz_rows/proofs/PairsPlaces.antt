@@ -1,5 +1,5 @@
 -- The places among the pairs of a tree, before and after a step.
-use Rattle.std.proofs.Common.{◌≡◌, ◌≢◌, ◌<◌, ◌≤◌, ◌^◌, ℕ, suc, List, [], ◌∷◌, refl, sym, ◌∙◌, ap, arith, subst, inl, inr, true, false, Option, Some, None}
+use Rattle.std.proofs.Common.{◌≡◌, ◌≢◌, ◌<◌, ◌≤◌, ◌^◌, ℕ, suc, List, [], ◌∷◌, refl, sym, ◌∙◌, ap, arith, subst, inl, inr, true, Option, Some, None}
 use Rattle.std.specs.Prelude.{◌⊎◌, Contains, not, ◌==◌, filter}
 use Rattle.std.proofs.lemmas.Bool.{cases_eq, ne_eqb, eq-eqb}
 use Rattle.gaz_num.specs.declared.words.Table.{Table}
@@ -21,15 +21,9 @@ use Rattle.gaz_rows.proofs.Numbers.{same_key, key_small}
 use Rattle.gaz_rows.proofs.Counting.{map_contains, map_from, passed}
 use Rattle.gaz_rows.proofs.RoomPairs.{bytes_of, bytes_fit, number_back, tag_back, key_below, IsOfLine, place_of_line}
 use Rattle.gaz_rows.proofs.Reindexed.{is_in, by_line, of_line}
-use Rattle.gaz_rows.proofs.ReindexedLines.{filter_has}
+use Rattle.gaz_rows.proofs.ReindexedLines.{filter_has, false_is_true, none_is_some}
 use Rattle.gaz_rows.proofs.Pairs.{AllKeys, behind_keys, first_key, rising_without_all, missing_had}
 use Rattle.gaz_rows.proofs.PairsStepped.{place_tag}
-
-false_is_true : false ≡ true → ⊥
-false_is_true is = cc
-
-none_is_some : {X : Type 0} (x : X) → None ≡ Some x → ⊥
-none_is_some x is = cc
 
 -- ---- places by look-ups
 
@@ -99,11 +93,11 @@ but_from (Some one) places place has =
     let was = passed (λ other. not (other == one)) places place has in
     (was.0, λ other is same. false_is_true (sym (ap not (eq-eqb place one (same ∙ sym (some_inj one other is)))) ∙ was.1))
 
-new_in : (new : Option (List ℕ)) (place : ℕ) (places : List ℕ) (line : List ℕ) → new ≡ Some line → Contains (with_new new place places) place
+pub new_in : (new : Option (List ℕ)) (place : ℕ) (places : List ℕ) (line : List ℕ) → new ≡ Some line → Contains (with_new new place places) place
 new_in None place places line is = absurd (none_is_some line is)
 new_in (Some l) place places line is = head_is_in place places
 
-old_in : (new : Option (List ℕ)) (place : ℕ) (places : List ℕ) (other : ℕ) → Contains places other → Contains (with_new new place places) other
+pub old_in : (new : Option (List ℕ)) (place : ℕ) (places : List ℕ) (other : ℕ) → Contains places other → Contains (with_new new place places) other
 old_in None place places other has = has
 old_in (Some l) place places other has = tail_is_in place places other has
 

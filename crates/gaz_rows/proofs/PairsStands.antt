@@ -18,6 +18,7 @@ use Rattle.gaz_rows.specs.Stands.{StandsForBut, places_in}
 use Rattle.gaz_rows.specs.Laid.{IsLaid, AfterOrder, AreLaid, ends_of}
 use Rattle.gaz_rows.specs.Steps.{SameSlots, IsSlotOf, MeetsLine, IsLeft, line_put, old_by, other_places, place_by, but_old, with_new, pairs_with, pairs_after, counted, recounted, one_if}
 use Rattle.gaz_rows.proofs.PairsIndexed.{next_gazetteer, next_counts, stepped_places, stepped_is_indexed}
+use Rattle.gaz_rows.proofs.ReindexedLines.{none_is_some}
 
 module _ (gaz : Gazetteer) (old : PagesView) (root : Root) (stands : StandsForBut [] gaz old.page (ends_of old root)) where
   pub rising_stands : Within 0 (2 ^ 256) stands.pairs
@@ -88,6 +89,3 @@ module _ (gaz : Gazetteer) (old : PagesView) (root : Root) (stands : StandsForBu
       where
         no_line : line_put kind line ≡ None
         no_line = ap (λ b. if b then None else Some line) deletes
-
-        none_is_some : (l : List ℕ) → None ≡ Some l → ⊥
-        none_is_some l e = cc

@@ -18,12 +18,7 @@ use Rattle.gaz_rows.proofs.Keyed.{some_inj}
 use Rattle.gaz_rows.proofs.Settled.{put_there, put_elsewhere}
 use Rattle.gaz_rows.proofs.Reindexed.{is_in, more_of_line, more_but_line}
 use Rattle.gaz_rows.proofs.Pairs.{AllKeys, numbers_differ, all_out_there, all_out_elsewhere, zeros_there, zeros_elsewhere, missing_has, missing_had}
-
-false_is_true : false ≡ true → ⊥
-false_is_true is = cc
-
-none_is_some : {X : Type 0} (x : X) → None ≡ Some x → ⊥
-none_is_some x is = cc
+use Rattle.gaz_rows.proofs.ReindexedLines.{false_is_true, none_is_some}
 
 -- a key with a place
 pub place_tag : (slots : Slots) (table : Table) (line : List ℕ) → has_place (tag_of (line_key slots table line)) ≡ true

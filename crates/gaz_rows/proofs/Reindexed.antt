@@ -13,9 +13,7 @@ use Rattle.gaz_rows.specs.Index.{Slots, line_key, line_keys, IsKeyOf, IsIndexed,
 use Rattle.gaz_rows.specs.Steps.{keys_by, more_by, IsOne, AreReplaced, SameSlots, KeysTell, LineKeysFit, KeysStepped, RecordsStepped}
 use Rattle.gaz_rows.proofs.Members.{head_is_in, tail_is_in}
 use Rattle.gaz_rows.proofs.Keyed.{some_inj}
-
-false_is_true : false ≡ true → ⊥
-false_is_true is = cc
+use Rattle.gaz_rows.proofs.ReindexedLines.{false_is_true, none_is_some}
 
 -- a key is in a list or not
 pub is_in : (keys : List (List ℕ)) (key : List ℕ) → Contains keys key ⊎ (Contains keys key → ⊥)
@@ -62,11 +60,8 @@ pub record IsPlaced (value : List ℕ → Option ℕ) (bytes : ℕ → Option (L
 pub is_placed : (value : List ℕ → Option ℕ) (bytes : ℕ → Option (List ℕ)) (key line : List ℕ) → option_and_then bytes (value key) ≡ Some line → IsPlaced value bytes key line
 is_placed value bytes key line is = by (value key) refl
   where
-    none_is : None ≡ Some line → ⊥
-    none_is e = cc
-
     by : (found : Option ℕ) → value key ≡ found → IsPlaced value bytes key line
-    by None none = absurd (none_is (sym (ap (option_and_then bytes) none) ∙ is))
+    by None none = absurd (none_is_some line (sym (ap (option_and_then bytes) none) ∙ is))
     by (Some place) some = record { place = place; at = some; stands = sym (ap (option_and_then bytes) some) ∙ is }
 
 module _ (slots : Slots) (gaz next : Gazetteer) (table : Table) (old new : Option (List ℕ)) (place : ℕ) (value value_now : List ℕ → Option ℕ) (bytes bytes_now : ℕ → Option (List ℕ)) where

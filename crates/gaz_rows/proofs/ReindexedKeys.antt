@@ -21,7 +21,8 @@ use Rattle.gaz_rows.specs.Index.{Slots, line_key, line_keys, SlotsDiffer}
 use Rattle.gaz_rows.specs.Steps.{KeysTell, LineKeysFit, IsSlotOf}
 use Rattle.gaz_rows.proofs.Members.{head_is_in}
 use Rattle.gaz_rows.proofs.Fit.{keyed}
-use Rattle.gaz_rows.proofs.ReindexedLines.{has_key, one_line, find_has}
+use Rattle.gaz_rows.proofs.ReindexedLines.{one_line, find_has}
+use Rattle.gaz_rows.proofs.Got.{has_key}
 
 -- the kinds of lines that a table holds, in the words of two crates
 kinds : (table : Table) → kind_in table ≡ kind_of table

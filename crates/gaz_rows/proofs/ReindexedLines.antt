@@ -22,11 +22,15 @@ use Rattle.gaz_rows.specs.Steps.{line_put, IsOne, AreReplaced}
 use Rattle.gaz_rows.proofs.Members.{head_is_in, tail_is_in}
 use Rattle.gaz_rows.proofs.Keyed.{some_inj}
 use Rattle.gaz_rows.proofs.Counting.{passed}
+use Rattle.gaz_rows.proofs.Got.{has_key}
 
 -- ---- lists
 
-false_is_true : false ≡ true → ⊥
+pub false_is_true : false ≡ true → ⊥
 false_is_true is = cc
+
+pub none_is_some : {X : Type 0} (x : X) → None ≡ Some x → ⊥
+none_is_some x is = cc
 
 module _ {X : Type 0} (p : X → Bool) where
   -- what is found is there and passes
@@ -54,10 +58,6 @@ module _ {X : Type 0} (p : X → Bool) where
   filter_none (x ∷ xs) none = rw (none x (head_is_in x xs)) (filter_none xs (λ y has. none y (tail_is_in x xs y has)))
 
 -- ---- the lines of a table
-
--- whether a line has a key of the table
-abbrev pub has_key : Table → List ℕ → List ℕ → Bool
-has_key table key line = is_eq (key_cmp (key_of table line) key)
 
 -- a line is found by its key
 pub found_itself : (table : Table) (lines : List (List ℕ)) (line : List ℕ) → AllPairs (KeysRise table) lines → Contains lines line → line_at table (key_of table line) lines ≡ Some line
