@@ -26,7 +26,8 @@ use Rattle.gaz_rows.proofs.Members.{head_is_in}
 use Rattle.gaz_rows.proofs.Keyed.{that_of, IsThatOf}
 use Rattle.gaz_rows.proofs.Fit.{place_key_fits, alternate_key_fits}
 use Rattle.gaz_rows.proofs.Got.{IsKeyAlone, has_key}
-use Rattle.gaz_rows.proofs.KeysFor.{id_small, row_key_alone, alternate_key_alone}
+use Rattle.gaz_keys.proofs.Fit.{id_small}
+use Rattle.gaz_rows.proofs.KeysFor.{row_key_alone, alternate_key_alone}
 use Rattle.gaz_rows.proofs.Reindexed.{by_line, is_placed, reindexed, reslotted}
 use Rattle.gaz_rows.proofs.ReindexedLines.{find_has, found_itself, step_replaces, is_taken, IsTaken, stays_gazetteer, none_is_some}
 use Rattle.gaz_rows.proofs.ReindexedKeys.{lines_fit, lines_tell, same_line_keys, key_told}
