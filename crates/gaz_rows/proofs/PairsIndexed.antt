@@ -25,11 +25,13 @@ use Rattle.gaz_rows.specs.Steps.{pair_at, pairs_after, but_old, line_put, keys_b
 use Rattle.gaz_rows.proofs.Members.{head_is_in}
 use Rattle.gaz_rows.proofs.Keyed.{that_of, IsThatOf}
 use Rattle.gaz_rows.proofs.Fit.{place_key_fits, alternate_key_fits}
-use Rattle.gaz_rows.proofs.Got.{IsKeyAlone, has_key}
+use Rattle.gaz_rows.proofs.Got.{IsKeyAlone}
 use Rattle.gaz_keys.proofs.Fit.{id_small}
 use Rattle.gaz_rows.proofs.KeysFor.{row_key_alone, alternate_key_alone}
-use Rattle.gaz_rows.proofs.Reindexed.{by_line, is_placed, reindexed, reslotted}
+use Rattle.gaz_rows.proofs.Reindexed.{by_line, reindexed, reslotted}
 use Rattle.gaz_rows.proofs.ReindexedLines.{find_has, found_itself, step_replaces, is_taken, IsTaken, stays_gazetteer, none_is_some}
+use Rattle.gaz_rows.proofs.Reindexed.{is_placed}
+use Rattle.gaz_rows.proofs.Got.{has_key}
 use Rattle.gaz_rows.proofs.ReindexedKeys.{lines_fit, lines_tell, same_line_keys, key_told}
 use Rattle.gaz_rows.proofs.ReindexedSlots.{slots_next}
 use Rattle.gaz_rows.proofs.ReindexedTaken.{step_recounts}
