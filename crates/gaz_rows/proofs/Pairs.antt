@@ -1,12 +1,12 @@
 -- What a look-up finds among pairs once keys were put and taken out.
-use Rattle.std.proofs.Common.{◌≡◌, ◌≢◌, ◌≤◌, ℕ, suc, Bool, true, false, List, [], ◌∷◌, refl, sym, ◌∙◌, ap, arith, subst, inl, inr, Option, Some, None}
+use Rattle.std.proofs.Common.{◌≡◌, ◌≢◌, ℕ, suc, Bool, true, false, List, [], ◌∷◌, refl, sym, ◌∙◌, ap, arith, subst, inl, inr, Some, None}
 use Rattle.std.specs.Prelude.{◌⊎◌, Contains, bytes_eq, not, ◌||◌, ◌==◌, if◌then◌else◌}
 use Rattle.std.specs.List.{list_any}
 use Rattle.std.proofs.lemmas.Bool.{cases_eq}
 use Rattle.std.proofs.lemmas.Slice.Eq.{bytes_eq-Decides}
 use Rattle.gaz_leaf.specs.Node.{Pair, key_of}
 use Rattle.gaz_tree.specs.Pairs.{Within, lookup, put, without}
-use Rattle.gaz_tree.proofs.Lists.{lookup-other, lookup-same, lookup-below, without-other, without-same, Within-without}
+use Rattle.gaz_tree.proofs.Lists.{lookup-other, lookup-below, without-other, without-same, Within-without}
 use Rattle.gaz_keys.specs.Keys.{IsKey}
 use Rattle.gaz_keys.proofs.Tags.{contained, contained_none}
 use Rattle.gaz_rows.specs.Work.{put_zeros, without_all, missing_in}
@@ -16,10 +16,7 @@ use Rattle.gaz_rows.proofs.Numbers.{same_key}
 use Rattle.gaz_rows.proofs.Settled.{put_there, put_elsewhere}
 use Rattle.gaz_rows.proofs.Reindexed.{is_in}
 use Rattle.gaz_rows.proofs.Counting.{passed}
-use Rattle.gaz_rows.proofs.ReindexedLines.{filter_has}
-
-false_is_true : false ≡ true → ⊥
-false_is_true is = cc
+use Rattle.gaz_rows.proofs.ReindexedLines.{filter_has, false_is_true}
 
 -- ---- one key
 
@@ -73,8 +70,8 @@ all_out_there (first ∷ keys) key low high pairs rising all fits has = elim (is
   | inl later ↦ all_out_there keys key low high (without (key_of first) pairs) (Within-without (key_of first) low high pairs rising) (behind_keys first keys all) fits later
   | inr lacks ↦ elim (contained first keys key has) [
     | inl is ↦
-      all_out_elsewhere keys key (without (key_of first) pairs) (behind_keys first keys all) fits lacks
-      ∙ subst (λ k. lookup (key_of k) (without (key_of first) pairs) ≡ None) is (without_there (key_of first) low high pairs rising)
+        all_out_elsewhere keys key (without (key_of first) pairs) (behind_keys first keys all) fits lacks
+        ∙ subst (λ k. lookup (key_of k) (without (key_of first) pairs) ≡ None) is (without_there (key_of first) low high pairs rising)
     | inr later ↦ absurd (lacks later)
   ]
 ]
@@ -91,8 +88,8 @@ zeros_there (first ∷ keys) key pairs all fits has = elim (is_in keys key) [
   | inl later ↦ zeros_there keys key (put (pair_at first 0) pairs) (behind_keys first keys all) fits later
   | inr lacks ↦ elim (contained first keys key has) [
     | inl is ↦
-      zeros_elsewhere keys key (put (pair_at first 0) pairs) (behind_keys first keys all) fits lacks
-      ∙ subst (λ k. lookup (key_of k) (put (pair_at first 0) pairs) ≡ Some 0) is (put_there (pair_at first 0) pairs)
+        zeros_elsewhere keys key (put (pair_at first 0) pairs) (behind_keys first keys all) fits lacks
+        ∙ subst (λ k. lookup (key_of k) (put (pair_at first 0) pairs) ≡ Some 0) is (put_there (pair_at first 0) pairs)
     | inr later ↦ absurd (lacks later)
   ]
 ]
@@ -114,6 +111,7 @@ in_any key (first ∷ keys) has = by (contained first keys key has) (in_any key 
     by_rest : (b : Bool) → list_any (bytes_eq key) keys ≡ true → (b || list_any (bytes_eq key) keys) ≡ true
     by_rest true some = refl
     by_rest false some = some
+
     by : (first ≡ key) ⊎ Contains keys key → (Contains keys key → list_any (bytes_eq key) keys ≡ true) → list_any (bytes_eq key) (first ∷ keys) ≡ true
     by (inl same) rest = rw ((bytes_eq-Decides key first).1 (sym same)) refl
     by (inr later) rest = by_rest (bytes_eq key first) (rest later)

@@ -1,6 +1,6 @@
 -- The pairs and the records after a step hold the gazetteer after it.
-use Rattle.std.proofs.Common.{◌≡◌, ◌≢◌, ◌<◌, ◌≤◌, ◌+◌, ◌-◌, ◌^◌, ℕ, List, [], ◌∷◌, length, refl, sym, ◌∙◌, ap, subst, inl, inr, true, false, Bool, Option, Some, None, Ok}
-use Rattle.std.specs.Prelude.{◌⊎◌, Contains, IsSome, is_some, option_map, option_and_then, unwrap_or, if◌then◌else◌}
+use Rattle.std.proofs.Common.{◌≡◌, ◌+◌, ◌-◌, ◌^◌, ℕ, List, [], ◌∷◌, refl, sym, ◌∙◌, ap, subst, true, false, Bool, Option, Some, None, Ok}
+use Rattle.std.specs.Prelude.{Contains, IsSome, is_some, option_map, option_and_then, unwrap_or, if◌then◌else◌}
 use Rattle.std.proofs.lemmas.List.Elements.{All-contains}
 use Rattle.gaz_num.specs.Numbers.{id_in}
 use Rattle.gaz_num.specs.Pieces.{column}
@@ -10,17 +10,18 @@ use Rattle.gaz_num.specs.declared.words.Kind.TheVariants.{Row, RowDelete, Alt, A
 use Rattle.gaz_num.specs.declared.words.Kind.TheVariants as kind
 use Rattle.gaz_num.specs.declared.words.Table.{Table}
 use Rattle.gaz_num.specs.declared.words.Table.TheVariants.{Rows, Alternates}
-use Rattle.gaz_plain.specs.Gazetteer.{Gazetteer, IsGazetteer, IsLine, kind_in, key_of as key_of_table, after_line, table_of, is_delete, lines_in, limit_of, line_with, line_at}
+use Rattle.gaz_plain.specs.Gazetteer.{Gazetteer, IsLine, kind_in, key_of as key_of_table, after_line, table_of, is_delete, lines_in, line_with, line_at}
 use Rattle.gaz_plain.specs.Laws.{IsGazetteerOf}
 use Rattle.gaz_leaf.specs.Node.{Pair, key_of}
-use Rattle.gaz_tree.specs.Pairs.{Within, lookup}
+use Rattle.gaz_tree.specs.Pairs.{Within, lookup, put, without}
 use Rattle.gaz_keys.specs.Keys.{IsKey, place_key, alternate_key}
 use Rattle.gaz_keys.specs.Lines.{id_at, more_keys, IsKeyed}
 use Rattle.gaz_keys.proofs.KeysFit.{keys_fit}
 use Rattle.gaz_keys.proofs.Tags.{contained_none, tag_at}
-use Rattle.gaz_rows.specs.Index.{Slots, line_key, line_keys, IsKeyOf, IsIndexed, SlotsDiffer}
+use Rattle.gaz_rows.specs.Index.{Slots, line_key, IsIndexed, SlotsDiffer}
 use Rattle.gaz_rows.specs.Stands.{value_in, places_in, counts_of}
-use Rattle.gaz_rows.specs.Steps.{line_put, keys_by, more_by, IsOne, AreReplaced, KeysTell, LineKeysFit, KeysStepped, RecordsLeft, SameMembers, place_by, but_old, with_new, old_by, other_places, pairs_with, MeetsLine, counted, recounted, one_if}
+use Rattle.gaz_rows.specs.Work.{put_zeros, without_all, missing_in}
+use Rattle.gaz_rows.specs.Steps.{pair_at, pairs_after, but_old, line_put, keys_by, more_by, AreReplaced, KeysTell, LineKeysFit, KeysStepped, RecordsLeft, SameMembers, place_by, with_new, other_places, pairs_with, MeetsLine, counted, recounted, one_if}
 use Rattle.gaz_rows.proofs.Members.{head_is_in}
 use Rattle.gaz_rows.proofs.Keyed.{that_of, IsThatOf}
 use Rattle.gaz_rows.proofs.Fit.{place_key_fits, alternate_key_fits}
@@ -28,11 +29,13 @@ use Rattle.gaz_rows.proofs.Got.{IsKeyAlone}
 use Rattle.gaz_keys.proofs.Fit.{id_small}
 use Rattle.gaz_rows.proofs.KeysFor.{row_key_alone, alternate_key_alone}
 use Rattle.gaz_rows.proofs.Reindexed.{by_line, reindexed, reslotted}
-use Rattle.gaz_rows.proofs.ReindexedLines.{find_has, has_key, found_itself, step_replaces, is_taken, IsTaken, stays_gazetteer}
+use Rattle.gaz_rows.proofs.ReindexedLines.{find_has, found_itself, step_replaces, is_taken, IsTaken, stays_gazetteer, none_is_some}
+use Rattle.gaz_rows.proofs.Reindexed.{is_placed}
+use Rattle.gaz_rows.proofs.Got.{has_key}
 use Rattle.gaz_rows.proofs.ReindexedKeys.{lines_fit, lines_tell, same_line_keys, key_told}
 use Rattle.gaz_rows.proofs.ReindexedSlots.{slots_next}
 use Rattle.gaz_rows.proofs.ReindexedTaken.{step_recounts}
-use Rattle.gaz_rows.proofs.Pairs.{AllKeys}
+use Rattle.gaz_rows.proofs.Pairs.{AllKeys, missing_all}
 use Rattle.gaz_rows.proofs.PairsStepped.{keys_stepped}
 use Rattle.gaz_rows.proofs.PairsPlaces.{records_stepped, places_stepped, rising_after}
 
@@ -72,9 +75,6 @@ puts_keyed AltDelete line puts accepted some = absurd (cc)
 puts_keyed Link line puts accepted some = record { accepted = accepted; keyed = some }
 puts_keyed Country line puts accepted some = record { accepted = accepted; keyed = some }
 puts_keyed kind.Code line puts accepted some = record { accepted = accepted; keyed = some }
-
-none_is_some : {X : Type 0} (x : X) → None ≡ Some x → ⊥
-none_is_some x is = cc
 
 module _ (slots now : Slots) (gaz : Gazetteer) (k : Kind) (line key : List ℕ) (pairs : List Pair) (bytes : ℕ → Option (List ℕ)) (meets : MeetsLine slots now gaz k line key pairs bytes) where
   abbrev table : Table
@@ -141,6 +141,35 @@ module _ (slots now : Slots) (gaz : Gazetteer) (k : Kind) (line key : List ℕ) 
       by : (one : Option (List ℕ)) → old ≡ one → one ≡ option_and_then bytes (lookup (key_of Key) pairs)
       by None is = sym (ap (option_and_then bytes) (none_at is (lookup (key_of Key) pairs) refl))
       by (Some was) is = sym (held.lines table was (was_there was is)) ∙ ap (λ asked. option_and_then bytes (lookup (key_of asked) pairs)) (same_place_key was is)
+
+  -- So there is one where the tree has a place.
+  pub old_there : is_some old ≡ is_some (lookup (key_of Key) pairs)
+  old_there = by old refl
+    where
+      by : (one : Option (List ℕ)) → old ≡ one → is_some one ≡ is_some (lookup (key_of Key) pairs)
+      by None is = sym (ap is_some (none_at is (lookup (key_of Key) pairs) refl))
+      by (Some was) is =
+          let stands = is_placed (value_in [] pairs) bytes (line_key now table was) was (held.lines table was (was_there was is)) in
+          sym (ap is_some stands.at) ∙ ap (λ asked. is_some (lookup (key_of asked) pairs)) (same_place_key was is)
+
+  -- The places of the other lines are those but that.
+  pub places_are : other_places now gaz k key pairs ≡ but_old (lookup (key_of Key) pairs) (places_in pairs)
+  places_are = ap (λ spot. but_old spot (places_in pairs)) place_is
+
+  -- ---- the pairs after the step
+
+  -- where the line is put
+  pub put_pairs : (place : ℕ) → is_delete k ≡ false
+      → pairs_with now gaz k line key place pairs ≡ put_zeros (missing_in (more_by table old) (more_keys table line)) (put (pair_at Key place) (without_all (missing_in (more_keys table line) (more_by table old)) pairs))
+  put_pairs place puts = ap (λ one. pairs_after now table old one place pairs) (ap (λ b. if b then None else Some line) puts)
+
+  -- where the old line is only taken out
+  pub deleted_pairs : (was : List ℕ) (place : ℕ) → is_delete k ≡ true → old ≡ Some was → pairs_with now gaz k line key place pairs ≡ without_all (missing_in [] (more_keys table was)) (without (key_of Key) pairs)
+  deleted_pairs was place deletes is =
+      ap (λ one. pairs_after now table old one place pairs) (ap (λ b. if b then None else Some line) deletes)
+      ∙ ap (λ one. pairs_after now table one None place pairs) is
+      ∙ ap (λ asked. without_all (more_keys table was) (without (key_of asked) pairs)) (same_place_key was is)
+      ∙ ap (λ keys. without_all keys (without (key_of Key) pairs)) (sym (missing_all (more_keys table was)))
 
   -- ---- the next gazetteer
 

@@ -1,19 +1,18 @@
 -- The places among the pairs of a tree, before and after a step.
-use Rattle.std.proofs.Common.{◌≡◌, ◌≢◌, ◌<◌, ◌≤◌, ◌^◌, ℕ, suc, Bool, List, [], ◌∷◌, refl, sym, ◌∙◌, ap, arith, subst, inl, inr, true, false, Option, Some, None}
-use Rattle.std.specs.Prelude.{◌⊎◌, Contains, IsSome, is_some, not, ◌==◌, if◌then◌else◌, map, filter, option_and_then}
+use Rattle.std.proofs.Common.{◌≡◌, ◌≢◌, ◌<◌, ◌≤◌, ◌^◌, ℕ, suc, List, [], ◌∷◌, refl, sym, ◌∙◌, ap, arith, subst, inl, inr, true, Option, Some, None}
+use Rattle.std.specs.Prelude.{◌⊎◌, Contains, not, ◌==◌, filter}
 use Rattle.std.proofs.lemmas.Bool.{cases_eq, ne_eqb, eq-eqb}
 use Rattle.gaz_num.specs.declared.words.Table.{Table}
 use Rattle.gaz_plain.specs.Gazetteer.{Gazetteer, lines_in}
 use Rattle.gaz_leaf.specs.Node.{Pair, key_of}
-use Rattle.gaz_tree.specs.Pairs.{Within, lookup, put, without}
-use Rattle.gaz_tree.proofs.Lists.{lookup-other, lookup-same, Within-put, Within-without}
+use Rattle.gaz_tree.specs.Pairs.{Within, lookup, put}
+use Rattle.gaz_tree.proofs.Lists.{lookup-other, lookup-same, Within-put}
 use Rattle.gaz_keys.specs.Keys.{IsKey}
 use Rattle.gaz_keys.specs.Parts.{tag_of, has_place}
 use Rattle.gaz_keys.specs.Lines.{more_keys}
 use Rattle.gaz_keys.proofs.Tags.{contained, contained_none, more_placeless}
-use Rattle.gaz_rows.specs.Index.{Slots, line_key, line_keys, IsKeyOf, IsIndexed}
+use Rattle.gaz_rows.specs.Index.{Slots, line_key, line_keys, IsIndexed}
 use Rattle.gaz_rows.specs.Stands.{value_in, tag_in, places_in}
-use Rattle.gaz_rows.specs.Laid.{all_but}
 use Rattle.gaz_rows.specs.Work.{put_zeros, without_all, missing_in}
 use Rattle.gaz_rows.specs.Steps.{keys_by, more_by, IsOne, AreReplaced, KeysTell, LineKeysFit, KeysStepped, RecordsStepped, RecordsLeft, SameMembers, pair_at, pairs_after, place_by, but_old, with_new}
 use Rattle.gaz_rows.proofs.Members.{head_is_in, tail_is_in}
@@ -21,16 +20,10 @@ use Rattle.gaz_rows.proofs.Keyed.{some_inj}
 use Rattle.gaz_rows.proofs.Numbers.{same_key, key_small}
 use Rattle.gaz_rows.proofs.Counting.{map_contains, map_from, passed}
 use Rattle.gaz_rows.proofs.RoomPairs.{bytes_of, bytes_fit, number_back, tag_back, key_below, IsOfLine, place_of_line}
-use Rattle.gaz_rows.proofs.Reindexed.{is_in, by_line, of_line, more_of_line}
-use Rattle.gaz_rows.proofs.ReindexedLines.{filter_has}
+use Rattle.gaz_rows.proofs.Reindexed.{is_in, by_line, of_line}
+use Rattle.gaz_rows.proofs.ReindexedLines.{filter_has, false_is_true, none_is_some}
 use Rattle.gaz_rows.proofs.Pairs.{AllKeys, behind_keys, first_key, rising_without_all, missing_had}
-use Rattle.gaz_rows.proofs.PairsStepped.{place_tag, more_tag}
-
-false_is_true : false ≡ true → ⊥
-false_is_true is = cc
-
-none_is_some : {X : Type 0} (x : X) → None ≡ Some x → ⊥
-none_is_some x is = cc
+use Rattle.gaz_rows.proofs.PairsStepped.{place_tag}
 
 -- ---- places by look-ups
 
@@ -39,8 +32,8 @@ pub pair_there : (key value : ℕ) (pairs : List Pair) → lookup key pairs ≡ 
 pair_there key value [] is = absurd (none_is_some value is)
 pair_there key value (p ∷ ps) is = elim (cases_eq p.key key) [
   | inl same ↦
-    let found = some_inj p.value value (sym (lookup-same key p ps same) ∙ is) in
-    subst (Contains (p ∷ ps)) (λ i. record { key = same i; value = found i }) (head_is_in p ps)
+      let found = some_inj p.value value (sym (lookup-same key p ps same) ∙ is) in
+      subst (Contains (p ∷ ps)) (λ i. record { key = same i; value = found i }) (head_is_in p ps)
   | inr differs ↦ tail_is_in p ps (record { key = key; value = value }) (pair_there key value ps (sym (lookup-other key p ps differs) ∙ is))
 ]
 
@@ -100,11 +93,11 @@ but_from (Some one) places place has =
     let was = passed (λ other. not (other == one)) places place has in
     (was.0, λ other is same. false_is_true (sym (ap not (eq-eqb place one (same ∙ sym (some_inj one other is)))) ∙ was.1))
 
-new_in : (new : Option (List ℕ)) (place : ℕ) (places : List ℕ) (line : List ℕ) → new ≡ Some line → Contains (with_new new place places) place
+pub new_in : (new : Option (List ℕ)) (place : ℕ) (places : List ℕ) (line : List ℕ) → new ≡ Some line → Contains (with_new new place places) place
 new_in None place places line is = absurd (none_is_some line is)
 new_in (Some l) place places line is = head_is_in place places
 
-old_in : (new : Option (List ℕ)) (place : ℕ) (places : List ℕ) (other : ℕ) → Contains places other → Contains (with_new new place places) other
+pub old_in : (new : Option (List ℕ)) (place : ℕ) (places : List ℕ) (other : ℕ) → Contains places other → Contains (with_new new place places) other
 old_in None place places other has = has
 old_in (Some l) place places other has = tail_is_in place places other has
 
@@ -196,10 +189,10 @@ module _ (slots : Slots) (gaz : Gazetteer) (pairs : List Pair) (bytes : ℕ → 
     not_another tell_now line is other l there same = elim (replaced.after other l there) [
       | inl one ↦ one
       | inr still ↦
-        let told = tell_now other table l line (line_key slots other l) still (replaced.came line is) (head_is_in (line_key slots other l) (more_keys other l))
-            (subst (Contains (line_keys slots table line)) (sym same) (head_is_in (line_key slots table line) (more_keys table line))) in
-        let here : Contains (lines_in gaz table) line = subst (λ m. Contains (lines_in gaz table) m) told.1 (subst (λ t. Contains (lines_in gaz t) l) told.0 there) in
-        (told.0, replaced.fresh line is here ∙ ap Some (sym told.1))
+          let told = tell_now other table l line (line_key slots other l) still (replaced.came line is) (head_is_in (line_key slots other l) (more_keys other l))
+          (subst (Contains (line_keys slots table line)) (sym same) (head_is_in (line_key slots table line) (more_keys table line))) in
+          let here : Contains (lines_in gaz table) line = subst (λ m. Contains (lines_in gaz table) m) told.1 (subst (λ t. Contains (lines_in gaz t) l) told.0 there) in
+          (told.0, replaced.fresh line is here ∙ ap Some (sym told.1))
     ]
 
     -- ---- the places after a step
@@ -228,10 +221,10 @@ module _ (slots : Slots) (gaz : Gazetteer) (pairs : List Pair) (bytes : ℕ → 
       to : (p : ℕ) → Contains (places_in now) p → Contains (with_new new place others) p
       to p has = elim (is_in (keys_by slots table new) key) [
         | inl in_new ↦
-          let of = by_line slots table new key in_new in
-          let same = is_place new of.0 key of.1 tag of.2 in
-          let is : Some place ≡ Some p = sym (keys.at of.0 of.1) ∙ ap (λ k. lookup (key_of k) now) same ∙ at in
-          subst (Contains (with_new new place others)) (some_inj place p is) (new_in new place others of.0 of.1)
+            let of = by_line slots table new key in_new in
+            let same = is_place new of.0 key of.1 tag of.2 in
+            let is : Some place ≡ Some p = sym (keys.at of.0 of.1) ∙ ap (λ k. lookup (key_of k) now) same ∙ at in
+            subst (Contains (with_new new place others)) (some_inj place p is) (new_in new place others of.0 of.1)
         | inr not_new ↦ elim (is_in (keys_by slots table old) key) [
           | inl in_old ↦ absurd (none_is_some p (sym (keys.gone key in_old not_new) ∙ at))
           | inr not_old ↦ old_in new place others p (kept not_old (sym (keys.others key (bytes_fit found.key) not_old not_new) ∙ at))
@@ -240,17 +233,22 @@ module _ (slots : Slots) (gaz : Gazetteer) (pairs : List Pair) (bytes : ℕ → 
         where
           found : IsAt now p
           found = place_at 0 now p rising_now has
+
           key : List ℕ
           key = bytes_of found.key
+
           tag : has_place (tag_of key) ≡ true
           tag = bytes_tag found.key found.small found.tag
+
           at : lookup (key_of key) now ≡ Some p
           at = ap (λ k. lookup k now) (number found.key found.small) ∙ found.at
+
           kept : (Contains (keys_by slots table old) key → ⊥) → lookup (key_of key) pairs ≡ Some p → Contains others p
           kept not_old was = but_in spot (places_in pairs) p (at_place found.key p pairs found.tag here) differs
             where
               here : lookup found.key pairs ≡ Some p
               here = ap (λ k. lookup k pairs) (sym (number found.key found.small)) ∙ was
+
               differs : (one : ℕ) → spot ≡ Some one → p ≢ one
               differs one is same =
                   let from = spot_from slots table pairs old one is in
@@ -262,9 +260,9 @@ module _ (slots : Slots) (gaz : Gazetteer) (pairs : List Pair) (bytes : ℕ → 
       from : (p : ℕ) → Contains (with_new new place others) p → Contains (places_in now) p
       from p has = elim (new_from new place others p has) [
         | inl one ↦
-          let there = replaced.came one.0 one.1 in
-          let fits = fit_now table one.0 (line_key slots table one.0) there (head_is_in (line_key slots table one.0) (more_keys table one.0)) in
-          subst (Contains (places_in now)) one.2 (at_place (key_of (line_key slots table one.0)) place now (line_tag table one.0 fits) (keys.at one.0 one.1))
+            let there = replaced.came one.0 one.1 in
+            let fits = fit_now table one.0 (line_key slots table one.0) there (head_is_in (line_key slots table one.0) (more_keys table one.0)) in
+            subst (Contains (places_in now)) one.2 (at_place (key_of (line_key slots table one.0)) place now (line_tag table one.0 fits) (keys.at one.0 one.1))
         | inr other ↦ stays (but_from spot (places_in pairs) p other)
       ]
         where
@@ -273,12 +271,16 @@ module _ (slots : Slots) (gaz : Gazetteer) (pairs : List Pair) (bytes : ℕ → 
             where
               found : IsAt pairs p
               found = place_at 0 pairs p rising was.0
+
               key : List ℕ
               key = bytes_of found.key
+
               at : lookup (key_of key) pairs ≡ Some p
               at = ap (λ k. lookup k pairs) (number found.key found.small) ∙ found.at
+
               not_old : Contains (keys_by slots table old) key → ⊥
               not_old in_old = was.1 p (old_spot found.key p found.small found.tag found.at in_old) refl
+
               not_new : Contains (keys_by slots table new) key → ⊥
               not_new in_new =
                   let of = by_line slots table new key in_new in

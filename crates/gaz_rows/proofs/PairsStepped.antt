@@ -1,5 +1,5 @@
 -- What a look-up finds among the pairs after a step.
-use Rattle.std.proofs.Common.{◌≡◌, ◌≢◌, ℕ, List, [], ◌∷◌, refl, sym, ◌∙◌, ap, subst, inl, inr, true, false, Option, Some, None}
+use Rattle.std.proofs.Common.{◌≡◌, ◌≢◌, ℕ, List, [], refl, sym, ◌∙◌, ap, subst, inl, inr, true, false, Option, Some, None}
 use Rattle.std.specs.Prelude.{Contains}
 use Rattle.gaz_num.specs.Pieces.{column}
 use Rattle.gaz_num.specs.declared.words.Table.{Table}
@@ -18,12 +18,7 @@ use Rattle.gaz_rows.proofs.Keyed.{some_inj}
 use Rattle.gaz_rows.proofs.Settled.{put_there, put_elsewhere}
 use Rattle.gaz_rows.proofs.Reindexed.{is_in, more_of_line, more_but_line}
 use Rattle.gaz_rows.proofs.Pairs.{AllKeys, numbers_differ, all_out_there, all_out_elsewhere, zeros_there, zeros_elsewhere, missing_has, missing_had}
-
-false_is_true : false ≡ true → ⊥
-false_is_true is = cc
-
-none_is_some : {X : Type 0} (x : X) → None ≡ Some x → ⊥
-none_is_some x is = cc
+use Rattle.gaz_rows.proofs.ReindexedLines.{false_is_true, none_is_some}
 
 -- a key with a place
 pub place_tag : (slots : Slots) (table : Table) (line : List ℕ) → has_place (tag_of (line_key slots table line)) ≡ true
@@ -94,9 +89,9 @@ module _ (slots : Slots) (table : Table) (old : Option (List ℕ)) (place high :
     zeros_now : (key : List ℕ) → Contains (more_keys table line) key → lookup (key_of key) now ≡ Some 0
     zeros_now key has = elim (is_in (more_by table old) key) [
       | inl also ↦
-        past key (all_new key (has_more key has)) (more_differ slots table (Some line) line key has) (λ c. (missing_had (more_by table old) (more_keys table line) key c).1 also)
-        ∙ all_out_elsewhere out key pairs all_out (all_new key (has_more key has)) (λ o. (missing_had (more_keys table line) (more_by table old) key o).1 has)
-        ∙ zeros_old key also
+          past key (all_new key (has_more key has)) (more_differ slots table (Some line) line key has) (λ c. (missing_had (more_by table old) (more_keys table line) key c).1 also)
+          ∙ all_out_elsewhere out key pairs all_out (all_new key (has_more key has)) (λ o. (missing_had (more_keys table line) (more_by table old) key o).1 has)
+          ∙ zeros_old key also
       | inr lacks ↦ zeros_there come key (put (pair_at Key place) base) all_come (all_new key (has_more key has)) (missing_has (more_by table old) (more_keys table line) key has lacks)
     ]
 

@@ -4,7 +4,6 @@ use Rattle.std.specs.Prelude.{◌⊎◌, Contains, option_and_then, IsSome, is_s
 use Rattle.std.proofs.lemmas.Slice.Eq.{bytes_eq-Decides}
 use Rattle.gaz_num.specs.Pieces.{column}
 use Rattle.gaz_num.specs.declared.words.Table.{Table}
-use Rattle.gaz_num.specs.declared.words.Table.TheVariants.{Codes}
 use Rattle.gaz_plain.specs.Gazetteer.{Gazetteer, lines_in}
 use Rattle.gaz_keys.specs.Keys.{IsKey}
 use Rattle.gaz_keys.specs.Lines.{more_keys}
@@ -14,9 +13,7 @@ use Rattle.gaz_rows.specs.Index.{Slots, line_key, line_keys, IsKeyOf, IsIndexed,
 use Rattle.gaz_rows.specs.Steps.{keys_by, more_by, IsOne, AreReplaced, SameSlots, KeysTell, LineKeysFit, KeysStepped, RecordsStepped}
 use Rattle.gaz_rows.proofs.Members.{head_is_in, tail_is_in}
 use Rattle.gaz_rows.proofs.Keyed.{some_inj}
-
-false_is_true : false ≡ true → ⊥
-false_is_true is = cc
+use Rattle.gaz_rows.proofs.ReindexedLines.{false_is_true, none_is_some}
 
 -- a key is in a list or not
 pub is_in : (keys : List (List ℕ)) (key : List ℕ) → Contains keys key ⊎ (Contains keys key → ⊥)
@@ -63,10 +60,8 @@ pub record IsPlaced (value : List ℕ → Option ℕ) (bytes : ℕ → Option (L
 pub is_placed : (value : List ℕ → Option ℕ) (bytes : ℕ → Option (List ℕ)) (key line : List ℕ) → option_and_then bytes (value key) ≡ Some line → IsPlaced value bytes key line
 is_placed value bytes key line is = by (value key) refl
   where
-    none_is : None ≡ Some line → ⊥
-    none_is e = cc
     by : (found : Option ℕ) → value key ≡ found → IsPlaced value bytes key line
-    by None none = absurd (none_is (sym (ap (option_and_then bytes) none) ∙ is))
+    by None none = absurd (none_is_some line (sym (ap (option_and_then bytes) none) ∙ is))
     by (Some place) some = record { place = place; at = some; stands = sym (ap (option_and_then bytes) some) ∙ is }
 
 module _ (slots : Slots) (gaz next : Gazetteer) (table : Table) (old new : Option (List ℕ)) (place : ℕ) (value value_now : List ℕ → Option ℕ) (bytes bytes_now : ℕ → Option (List ℕ)) where
@@ -137,8 +132,8 @@ module _ (slots : Slots) (gaz next : Gazetteer) (table : Table) (old new : Optio
     only_there : (key : List ℕ) → IsKey key → IsSome (value_now key) → IsKeyOf slots next key
     only_there key fits some = elim (is_in (keys_by slots table new) key) [
       | inl has ↦
-        let of = by_line slots table new key has in
-        record { table = table; line = of.0; there = replaced.came of.0 of.1; among = of.2 }
+          let of = by_line slots table new key has in
+          record { table = table; line = of.0; there = replaced.came of.0 of.1; among = of.2 }
       | inr not_new ↦ elim (is_in (keys_by slots table old) key) [
         | inl has ↦ absurd (false_is_true (sym (ap is_some (keys.gone key has not_new)) ∙ some))
         | inr lacks ↦ still key lacks (held.only key fits (sym (ap is_some (keys.others key fits lacks not_new)) ∙ some))
@@ -149,8 +144,8 @@ module _ (slots : Slots) (gaz next : Gazetteer) (table : Table) (old new : Optio
     lines_there other line has = elim (stands_as other line has) [
       | inl one ↦ ap (option_and_then bytes_now) (new_at other line one) ∙ records.there line one.1
       | inr kept ↦
-        let was = is_placed value bytes (line_key slots other line) line (held.lines other line kept.there) in
-        ap (option_and_then bytes_now) (kept_same other line kept ∙ was.at) ∙ records.others other line was.place kept.there kept.isnt was.at ∙ was.stands
+          let was = is_placed value bytes (line_key slots other line) line (held.lines other line kept.there) in
+          ap (option_and_then bytes_now) (kept_same other line kept ∙ was.at) ∙ records.others other line was.place kept.there kept.isnt was.at ∙ was.stands
     ]
 
     zeros_there : (other : Table) (line key : List ℕ) → Contains (lines_in next other) line → Contains (more_keys other line) key → value_now key ≡ Some 0

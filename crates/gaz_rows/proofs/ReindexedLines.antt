@@ -1,5 +1,5 @@
 -- Which lines a gazetteer has after a step, and how many.
-use Rattle.std.proofs.Common.{◌≡◌, ◌≢◌, ◌≤◌, ◌+◌, ℕ, zero, suc, Bool, true, false, List, [], ◌∷◌, ◌++◌, length, filter, refl, sym, ◌∙◌, ap, subst, inl, inr, arith, Option, Some, None, Result, Ok, Err, IsTrue, length-append}
+use Rattle.std.proofs.Common.{◌≡◌, ◌≢◌, ◌≤◌, ◌+◌, ℕ, suc, Bool, true, false, List, [], ◌∷◌, ◌++◌, length, filter, refl, sym, ◌∙◌, ap, subst, inl, inr, arith, Option, Some, None, Result, Ok, Err, IsTrue, length-append}
 use Rattle.std.specs.Prelude.{◌⊎◌, Contains, AllPairs, find, IsSome, is_some, if◌then◌else◌, nat_lt, IfOk}
 use Rattle.std.specs.Ordering.{is_lt, is_gt, is_eq}
 use Rattle.std.specs.declared.cmp.Ordering.{Ordering}
@@ -10,7 +10,7 @@ use Rattle.gaz_num.specs.declared.words.Kind.{Kind}
 use Rattle.gaz_num.specs.declared.words.Table.{Table}
 use Rattle.gaz_num.specs.declared.words.Reason.{Reason}
 use Rattle.gaz_num.specs.Check.{reason_against, key_in}
-use Rattle.gaz_plain.specs.Gazetteer.{Gazetteer, IsGazetteer, KeysRise, full, key_of, key_cmp, lines_in, with_lines, limit_of, table_of, is_delete, is_one_line, put_by, line_at, line_with, replaced, step, step_at, if_within, after_check, after_line}
+use Rattle.gaz_plain.specs.Gazetteer.{Gazetteer, IsGazetteer, KeysRise, full, key_of, key_cmp, lines_in, with_lines, limit_of, table_of, is_delete, is_one_line, put_by, line_at, line_with, replaced, step, step_at, after_check, after_line}
 use Rattle.gaz_plain.specs.Laws.{IsGazetteerOf}
 use Rattle.gaz_plain.proofs.KeyOrder.{same_key, key_ties}
 use Rattle.gaz_plain.proofs.Steps.{own_lines, one_or_other, key_of_put}
@@ -22,11 +22,15 @@ use Rattle.gaz_rows.specs.Steps.{line_put, IsOne, AreReplaced}
 use Rattle.gaz_rows.proofs.Members.{head_is_in, tail_is_in}
 use Rattle.gaz_rows.proofs.Keyed.{some_inj}
 use Rattle.gaz_rows.proofs.Counting.{passed}
+use Rattle.gaz_rows.proofs.Got.{has_key}
 
 -- ---- lists
 
-false_is_true : false ≡ true → ⊥
+pub false_is_true : false ≡ true → ⊥
 false_is_true is = cc
+
+pub none_is_some : {X : Type 0} (x : X) → None ≡ Some x → ⊥
+none_is_some x is = cc
 
 module _ {X : Type 0} (p : X → Bool) where
   -- what is found is there and passes
@@ -54,10 +58,6 @@ module _ {X : Type 0} (p : X → Bool) where
   filter_none (x ∷ xs) none = rw (none x (head_is_in x xs)) (filter_none xs (λ y has. none y (tail_is_in x xs y has)))
 
 -- ---- the lines of a table
-
--- whether a line has a key of the table
-abbrev pub has_key : Table → List ℕ → List ℕ → Bool
-has_key table key line = is_eq (key_cmp (key_of table line) key)
 
 -- a line is found by its key
 pub found_itself : (table : Table) (lines : List (List ℕ)) (line : List ℕ) → AllPairs (KeysRise table) lines → Contains lines line → line_at table (key_of table line) lines ≡ Some line
@@ -125,12 +125,15 @@ module _ (table : Table) (key : List ℕ) (put lines : List (List ℕ)) where
         where
           rises : KeysRise table line y
           rises = subst (KeysRise table line) has.2 (rising 0 (suc has.0) y (omega arith) (let below = has.1 in omega (arith, below)))
+
           never : Less ≡ Equal → ⊥
           never e = cc
+
           by_test : (b : Bool) → has_key table key y ≡ b → has_key table key y ≡ false
           by_test true also =
               absurd (never (sym rises ∙ ap (λ k. key_cmp k (key_of table y)) (same_key (key_of table line) key is ∙ sym (same_key (key_of table y) key also)) ∙ key_ties (key_of table y)))
           by_test false lacks = lacks
+
       by : (b : Bool) → has_key table key line ≡ b → length (equal all) ≡ (if is_some (line_at table key all) then 1 else 0) → length (equal (line ∷ all)) ≡ (if is_some (line_at table key (line ∷ all)) then 1 else 0)
       by true is rest = rw is (ap (λ ls. suc (length ls)) (filter_none (has_key table key) all (behind is)))
       by false is rest = rw is rest
@@ -202,18 +205,21 @@ module _ (gaz : Gazetteer) (kind : Kind) (line key : List ℕ) (keyed : key_in k
       where
         lines : List (List ℕ)
         lines = replaced table key (put_by kind line) (lines_in gaz table)
+
         fresh : (l : List ℕ) → new ≡ Some l → Contains (lines_in gaz table) l → old ≡ Some l
         fresh l here has = ap (λ k. line_at table k (lines_in gaz table)) (sym (new_key l here)) ∙ found_itself table (lines_in gaz table) l (is.tables table).rising has
+
         before : (other : Table) (l : List ℕ) → Contains (lines_in edit other) l → IsOne table new other l ⊎ (Contains (lines_in gaz other) l × (IsOne table old other l → ⊥))
         before other l has = elim (one_table other table) [
           | inl same ↦
-            let here : Contains lines l = subst (λ ls. Contains ls l) (own_lines gaz table lines) (subst (λ t. Contains (lines_in edit t) l) same has) in
-            elim (was_in table key (put_by kind line) (lines_in gaz table) l here) [
-              | inl put ↦ inl (same, put_is l put)
-              | inr kept ↦ inr (subst (λ t. Contains (lines_in gaz t) l) (sym same) kept.0, λ one. kept.1 (same_key (key_of table l) key (find_has (has_key table key) (lines_in gaz table) l one.1).1))
-            ]
+              let here : Contains lines l = subst (λ ls. Contains ls l) (own_lines gaz table lines) (subst (λ t. Contains (lines_in edit t) l) same has) in
+              elim (was_in table key (put_by kind line) (lines_in gaz table) l here) [
+                | inl put ↦ inl (same, put_is l put)
+                | inr kept ↦ inr (subst (λ t. Contains (lines_in gaz t) l) (sym same) kept.0, λ one. kept.1 (same_key (key_of table l) key (find_has (has_key table key) (lines_in gaz table) l one.1).1))
+              ]
           | inr differs ↦ inr (subst (λ ls. Contains ls l) (other_lines gaz table other lines differs) has, λ one. differs one.0)
         ]
+
         after : (other : Table) (l : List ℕ) → Contains (lines_in gaz other) l → IsOne table old other l ⊎ Contains (lines_in edit other) l
         after other l has = elim (one_table other table) [
           | inl same ↦ in_table same (subst (λ t. Contains (lines_in gaz t) l) same has)
@@ -266,12 +272,14 @@ is_taken gaz kind line next taken = by (reason_against kind line) refl taken
   where
     ok_inj : {A E : Type 0} (x y : A) (r : Result A E) → r ≡ Ok x → r ≡ Ok y → y ≡ x
     ok_inj x y r one other = cc
+
     within : (b : Bool) → nat_lt (limit_of (table_of kind)) (length (lines_in (step gaz kind line) (table_of kind))) ≡ b
         → (if b then Err (full (table_of kind)) else Ok (step gaz kind line)) ≡ Ok next → reason_against kind line ≡ None → IsTaken gaz kind line next
     within true past ok accepted = absurd (cc)
     within false fits ok accepted =
         let same : next ≡ step gaz kind line = cc in
         record { accepted = accepted; is = same; within = subst (λ g. length (lines_in g (table_of kind)) ≤ limit_of (table_of kind)) (sym same) (grind (arith, nat_tests, fits)) }
+
     by : (found : Option Reason) → reason_against kind line ≡ found → after_check gaz kind line found ≡ Ok next → IsTaken gaz kind line next
     by (Some reason) is ok = absurd (cc)
     by None is ok = within (nat_lt (limit_of (table_of kind)) (length (lines_in (step gaz kind line) (table_of kind)))) refl ok is

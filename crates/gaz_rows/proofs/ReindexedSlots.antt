@@ -6,16 +6,12 @@ use Rattle.gaz_num.specs.Pieces.{column}
 use Rattle.gaz_num.specs.declared.words.Table.{Table}
 use Rattle.gaz_num.specs.declared.words.Table.TheVariants.{Codes}
 use Rattle.gaz_name.specs.Name.{first_bytes}
-use Rattle.gaz_plain.specs.Gazetteer.{Gazetteer, IsGazetteer, lines_in, line_with, line_at}
+use Rattle.gaz_plain.specs.Gazetteer.{Gazetteer, IsGazetteer, line_with, line_at}
 use Rattle.gaz_plain.proofs.KeyOrder.{same_key}
-use Rattle.gaz_keys.proofs.Alike.{one_table}
 use Rattle.gaz_rows.specs.Index.{Slots, SlotsDiffer}
 use Rattle.gaz_rows.specs.Steps.{AreReplaced, SameSlots, slot_with, IsFreeSlot, IsSlotOf}
-use Rattle.gaz_rows.proofs.Keyed.{some_inj}
-use Rattle.gaz_rows.proofs.ReindexedLines.{one_line, found_itself, find_has, has_key}
-
-none_is_some : {X : Type 0} (x : X) → None ≡ Some x → ⊥
-none_is_some x is = cc
+use Rattle.gaz_rows.proofs.ReindexedLines.{one_line, found_itself, find_has, none_is_some, false_is_true}
+use Rattle.gaz_rows.proofs.Got.{has_key}
 
 -- ---- which slot a code may have
 
@@ -28,6 +24,7 @@ slot_kept slots gaz code was are found = record {
   where
     there : Contains gaz.codes was × (has_key Codes code was ≡ true)
     there = find_has (has_key Codes code) gaz.codes was found
+
     same : column 1 was ≡ code
     same = same_key (column 1 was) code there.1
 
@@ -55,9 +52,6 @@ module _ (slots : Slots) (gaz : Gazetteer) (code : List ℕ) (slot : ℕ) where
           by : (b : Bool) → bytes_eq (column 1 line) code ≡ b → column 1 line ≡ code
           by true is = (bytes_eq-Decides (column 1 line) code).0 is
           by false is = absurd (free line has first (sym (other (column 1 line) (λ e. false_is_true (sym is ∙ (bytes_eq-Decides (column 1 line) code).1 e))) ∙ same ∙ own))
-            where
-              false_is_true : false ≡ true → ⊥
-              false_is_true e = cc
 
   -- The codes that are there keep theirs.
   pub slots_agree : IsGazetteer gaz → line_with Codes code gaz ≡ None → SameSlots gaz slots (slot_with slots code slot)

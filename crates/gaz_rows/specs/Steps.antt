@@ -1,11 +1,14 @@
 -- What a step does to the index: to the values of keys and the bytes at places, and to the pairs of the tree.
-use Rattle.std.specs.Prelude.{◌≡◌, ◌≢◌, ◌<◌, ◌⊎◌, ◌^◌, ℕ, List, [], ◌∷◌, Option, Some, None, IsSome, is_some, IsTrue, bytes_eq, if◌then◌else◌, option_and_then, Contains}
+use Rattle.std.specs.Prelude.{◌≡◌, ◌≢◌, ◌<◌, ◌⊎◌, ◌+◌, ◌-◌, ◌^◌, ℕ, List, [], ◌∷◌, Option, Some, None, IsSome, is_some, IsTrue, bytes_eq, if◌then◌else◌, option_and_then, Contains}
 use Rattle.gaz_num.specs.declared.words.Kind.{Kind}
 use Rattle.gaz_num.specs.declared.words.Table.{Table}
 use Rattle.gaz_num.specs.declared.words.Table.TheVariants.{Rows, Alternates, Links, Countries, Codes}
 use Rattle.gaz_num.specs.Pieces.{column}
 use Rattle.gaz_name.specs.Name.{first_bytes}
 use Rattle.gaz_page.specs.declared.root.LineCounts.{LineCounts}
+use Rattle.gaz_page.specs.declared.tree_root.Root.{Root}
+use Rattle.gaz_page.specs.Pages.{PagesView}
+use Rattle.gaz_heap.specs.Place.{record_at}
 use Rattle.gaz_num.specs.Check.{reason_against, key_in}
 use Rattle.gaz_plain.specs.Gazetteer.{Gazetteer, IsGazetteer, table_of, is_delete, is_one_line, lines_in, line_with}
 use Rattle.gaz_leaf.specs.Node.{Pair, key_of}
@@ -14,7 +17,7 @@ use Rattle.gaz_keys.specs.Keys.{IsKey}
 use Rattle.gaz_keys.specs.Lines.{more_keys}
 use Rattle.gaz_rows.specs.Index.{Slots, line_key, line_keys, IsIndexed}
 use Rattle.gaz_rows.specs.Stands.{value_in, places_in}
-use Rattle.gaz_rows.specs.Laid.{all_but}
+use Rattle.gaz_rows.specs.Laid.{IsLaid, all_but}
 use Rattle.gaz_rows.specs.Work.{put_zeros, without_all, missing_in}
 
 -- the line that a line of a kind puts, and none where it only takes out
@@ -170,3 +173,11 @@ pub record MeetsLine (slots now : Slots) (gaz : Gazetteer) (kind : Kind) (line k
   pub held : IsIndexed slots gaz (value_in [] pairs) bytes
   pub same_slots : SameSlots gaz slots now
   pub slot : table_of kind ≡ Codes → IsSlotOf now gaz (column 1 line)
+
+-- What the calls of a step leave: the date, the counts with one more line and one less, pages on which the pairs after the step are laid, with
+-- records at the places of the other lines and of the new one, and these records.
+pub record IsLeft (old new : PagesView) (root now : Root) (slots : Slots) (gaz : Gazetteer) (kind : Kind) (line key : List ℕ) (pairs : List Pair) (place : ℕ) : Type 0 where
+  pub day : now.day ≡ root.day
+  pub counts : now.counts ≡ recounted root.counts (table_of kind) (counted root.counts (table_of kind) + one_if (line_put kind line) - one_if (old_by gaz kind key))
+  pub laid : IsLaid new now (pairs_with slots gaz kind line key place pairs) (now.heap ∷ []) (with_new (line_put kind line) place (other_places slots gaz kind key pairs))
+  pub records : RecordsLeft (line_put kind line) place (other_places slots gaz kind key pairs) (record_at old.page) (record_at new.page)
