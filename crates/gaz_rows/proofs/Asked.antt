@@ -25,7 +25,8 @@ use Rattle.gaz_name.specs.Name.{first_bytes}
 use Rattle.gaz_rows.specs.declared.fault.AskFault.{AskFault}
 use Rattle.gaz_rows.specs.Faults.{fault_of}
 use Rattle.gaz_rows.specs.Index.{Slots}
-use Rattle.gaz_rows.specs.Store.{IsStoreBut, IsAnswer, Answers, IsSoundOver, IsSound, ends_of}
+use Rattle.gaz_rows.specs.Laid.{ends_of}
+use Rattle.gaz_rows.specs.Store.{IsStoreBut, IsAnswer, Answers, IsSoundOver, IsSound}
 use Rattle.gaz_rows.specs.Found.{Finds, FindsCoded, FailsSoundly, GivesNext, if_coded, has_code}
 use Rattle.gaz_rows.proofs.Fit.{AreBytes}
 use Rattle.gaz_rows.proofs.Got.{IsKeyFor, IsKeyAlone, has_key, line_found, line_found_alone, line_at_key, record_there}

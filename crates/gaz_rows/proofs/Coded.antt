@@ -28,7 +28,8 @@ use Rattle.gaz_keys.specs.Parts.{tag_of, has_place}
 use Rattle.gaz_keys.proofs.Tags.{tag_at}
 use Rattle.gaz_rows.specs.Index.{line_key, IsKeyOf}
 use Rattle.gaz_rows.specs.Stands.{value_in}
-use Rattle.gaz_rows.specs.Store.{IsStoreBut, IsAnswer, Answers, IsSound, IsSoundOver, ends_of}
+use Rattle.gaz_rows.specs.Laid.{ends_of}
+use Rattle.gaz_rows.specs.Store.{IsStoreBut, IsAnswer, Answers, IsSound, IsSoundOver}
 use Rattle.gaz_rows.specs.Found.{HaveRecords, OverRange, coded_in, has_code, like_codes, records_of}
 use Rattle.gaz_keys.proofs.Fit.{first_size}
 use Rattle.gaz_rows.proofs.Fit.{AreBytes, code_key_fits}

@@ -11,7 +11,8 @@ use Rattle.gaz_tree.specs.Pairs.{lookup}
 use Rattle.gaz_rows.specs.declared.fault.AskFault.{AskFault}
 use Rattle.gaz_rows.specs.Index.{line_key, IsKeyOf}
 use Rattle.gaz_rows.specs.Stands.{value_in}
-use Rattle.gaz_rows.specs.Store.{IsStoreBut, IsSound, ends_of}
+use Rattle.gaz_rows.specs.Laid.{ends_of}
+use Rattle.gaz_rows.specs.Store.{IsStoreBut, IsSound}
 use Rattle.gaz_rows.specs.Found.{IsPlaceOf, IsLineOf, OverPlace}
 use Rattle.gaz_rows.proofs.Got.{value_is}
 use Rattle.gaz_rows.proofs.Keyed.{placed, some_inj}

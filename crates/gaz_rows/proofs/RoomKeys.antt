@@ -10,7 +10,7 @@ use Rattle.gaz_plain.specs.Gazetteer.{Gazetteer, IsGazetteer, lines_in}
 use Rattle.gaz_leaf.specs.Node.{Pair, key_of}
 use Rattle.gaz_tree.specs.Pairs.{Within}
 use Rattle.gaz_keys.specs.Parts.{has_place}
-use Rattle.gaz_keys.specs.Lines.{division_keys, division_level}
+use Rattle.gaz_keys.specs.Lines.{division_keys, division_level, divided_key}
 use Rattle.gaz_rows.specs.Index.{Slots, line_key, line_keys, IsIndexed}
 use Rattle.gaz_rows.specs.Stands.{value_in, tag_in, places_in}
 use Rattle.gaz_rows.proofs.Counting.{flat_contains, flat_most, few_pairs, some_rise}
@@ -42,7 +42,9 @@ division_few line None = omega arith
 division_few line (Some level) = omega arith
 
 keys_few : (slots : Slots) (table : Table) (line : List ℕ) → length (line_keys slots table line) ≤ most_keys table
-keys_few slots Rows line = let few = division_few line (division_level line) in omega (arith, few)
+keys_few slots Rows line =
+    let few = division_few line (division_level line) in
+    omega (arith, few, length-append (division_keys line (division_level line)) (divided_key line ∷ []))
 keys_few slots Alternates line = omega arith
 keys_few slots Links line = omega arith
 keys_few slots Countries line = omega arith
