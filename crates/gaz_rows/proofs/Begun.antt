@@ -1,24 +1,22 @@
 -- Pages of which one was taken for a tree without pairs stand for the empty gazetteer.
-use Rattle.std.proofs.Common.{◌≡◌, ◌≢◌, ◌<◌, ◌≤◌, ◌-◌, ◌+◌, ◌*◌, ◌^◌, ℕ, List, [], ◌∷◌, length, refl, sym, ◌∙◌, ap, arith, subst, inl, inr, true, false, Option, Some, None, Result, Ok, Err}
-use Rattle.std.specs.Prelude.{◌⊎◌, Contains, All, IsTrue, IsSome, is_some}
+use Rattle.std.proofs.Common.{◌≡◌, ◌<◌, ◌≤◌, ◌+◌, ◌*◌, ℕ, List, [], ◌∷◌, refl, sym, ◌∙◌, arith, subst, inl, inr, true, Option, Some, None, Err}
+use Rattle.std.specs.Prelude.{◌⊎◌, Contains, is_some}
 use Rattle.gaz_num.specs.declared.words.Table.{Table}
 use Rattle.gaz_num.specs.declared.words.Table.TheVariants.{Rows, Alternates, Links, Countries, Codes}
-use Rattle.gaz_plain.specs.Gazetteer.{Gazetteer, IsGazetteer, IsTable, empty, dated, lines_in}
+use Rattle.gaz_plain.specs.Gazetteer.{IsGazetteer, IsTable, empty, dated, lines_in}
 use Rattle.gaz_page.specs.declared.tree_root.Root.{Root}
 use Rattle.gaz_page.specs.declared.pages.PageFault.{PageFault}
 use Rattle.gaz_page.specs.declared.pages.PageFault.TheVariants as page
 use Rattle.gaz_page.specs.Pages.{PagesView, IsDamaged, damage}
-use Rattle.gaz_page.specs.Chains.{InUse, IsFreeChain}
+use Rattle.gaz_page.specs.Chains.{IsFreeChain}
 use Rattle.gaz_heap.specs.Place.{record_at}
-use Rattle.gaz_tree.specs.declared.tree.Tree.{Tree}
 use Rattle.gaz_tree.specs.Put.{HasChain, IsFree, Trades}
 use Rattle.gaz_tree.specs.Stands.{Stands as IsTreeOf, OfTree}
 use Rattle.gaz_tree.proofs.Trading.{in_chain}
-use Rattle.gaz_keys.specs.Keys.{IsKey}
 use Rattle.gaz_keys.proofs.Tags.{contained, contained_none}
 use Rattle.gaz_rows.specs.declared.fault.AskFault.{AskFault}
 use Rattle.gaz_rows.specs.Faults.{fault_of}
-use Rattle.gaz_rows.specs.Index.{IsKeyOf, IsIndexed}
+use Rattle.gaz_rows.specs.Index.{IsIndexed}
 use Rattle.gaz_rows.specs.Laid.{ends_of, tree_in}
 use Rattle.gaz_rows.specs.Stands.{Use, tree, slots, chain, free, IsFor, HasSlots, AreUsedOnce, value_in, counts_of}
 use Rattle.gaz_rows.specs.Store.{IsStore, IsUndamaged}
@@ -38,6 +36,7 @@ dated_is date = record { tables = each; undated = λ is. absurd (never is) }
   where
     never : Some date ≡ None → ⊥
     never is = cc
+
     each : (table : Table) → IsTable table (lines_in (dated empty date) table)
     each Rows = empty_is.tables Rows
     each Alternates = empty_is.tables Alternates

@@ -1,6 +1,6 @@
 -- The line at the place of a key.
 use Rattle.std.proofs.Common.{◌≡◌, ℕ, List, refl, sym, ◌∙◌, ap, subst, Some, take, Result, Ok, Err}
-use Rattle.std.specs.Prelude.{IsTrue, IsSome, Contains, option_and_then, is_some, IfOk, IfErr}
+use Rattle.std.specs.Prelude.{IsTrue, IsSome, option_and_then, is_some, IfOk, IfErr}
 use Rattle.gaz_num.specs.Pieces.{column}
 use Rattle.gaz_plain.specs.Gazetteer.{Gazetteer}
 use Rattle.gaz_page.specs.declared.tree_root.Root.{Root}

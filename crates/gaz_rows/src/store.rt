@@ -137,7 +137,12 @@ impl<P: Pages> RowStore<P> {
     }
 
     /// The line at the place of a key, if the first column of it is the code.
-    fn get_coded(&mut self, key: &[u8; 32], code: &[u8], buf: &mut [u8]) -> Result<Option<usize>, AskFault>
+    fn get_coded(
+        &mut self,
+        key: &[u8; 32],
+        code: &[u8],
+        buf: &mut [u8],
+    ) -> Result<Option<usize>, AskFault>
         requires room { 65535 ≤ length buf.old }
         ensures line { IfOk result (FindsCoded key.now code.now (P.view self.old.pages) self.old.root buf.new) }
         ensures fits { IfOk result (λ found. IfSome found (λ size. size ≤ 65535)) }

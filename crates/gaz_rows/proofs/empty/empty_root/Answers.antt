@@ -1,4 +1,4 @@
-use Rattle.std.proofs.Common.{refl, arith, subst}
+use Rattle.std.proofs.Common.{refl, arith}
 use Rattle.gaz_tree.specs.declared.tree.Tree.{Tree}
 use Rattle.gaz_plain.specs.Gazetteer.{empty}
 use Rattle.gaz_rows.specs.Stands.{counts_of}
