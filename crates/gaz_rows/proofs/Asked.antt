@@ -1,6 +1,6 @@
 -- What a look-up by a key of the index answers of the lines of a table.
-use Rattle.std.proofs.Common.{◌≡◌, ◌<◌, ◌^◌, ℕ, List, [], ◌∷◌, refl, sym, ◌∙◌, ap, subst, Option, Some, None, Result, Ok, Err, true, false, Bool, take}
-use Rattle.std.specs.Prelude.{IsTrue, IsSome, Contains, option_and_then, IfErr, IfOk, bytes_eq, if◌then◌else◌}
+use Rattle.std.proofs.Common.{◌≡◌, ℕ, List, refl, sym, ◌∙◌, ap, subst, Option, Some, None, Result, Ok, Err}
+use Rattle.std.specs.Prelude.{IsTrue, Contains, option_and_then, IfErr, IfOk, if◌then◌else◌}
 use Rattle.std.proofs.lemmas.Map.Text.{is_eq-slice_cmp}
 use Rattle.std.proofs.lemmas.Map.Entries.{option_filter}
 use Rattle.std.specs.Ordering.{is_eq}
@@ -13,7 +13,7 @@ use Rattle.gaz_page.specs.Pages.{PagesView}
 use Rattle.gaz_num.specs.Pieces.{column}
 use Rattle.gaz_num.specs.declared.words.Table.{Table}
 use Rattle.gaz_num.specs.declared.words.Table.TheVariants.{Countries}
-use Rattle.gaz_plain.specs.Gazetteer.{Gazetteer, IsLine, line_with, key_of, key_cmp, kind_in, lines_in}
+use Rattle.gaz_plain.specs.Gazetteer.{Gazetteer, IsLine, line_with, key_cmp}
 use Rattle.gaz_heap.specs.Place.{record_at}
 use Rattle.gaz_leaf.specs.Node.{Pair, key_of as number_of}
 use Rattle.gaz_scan.specs.declared.scan.Scan.{Scan}
@@ -25,8 +25,8 @@ use Rattle.gaz_name.specs.Name.{first_bytes}
 use Rattle.gaz_rows.specs.declared.fault.AskFault.{AskFault}
 use Rattle.gaz_rows.specs.Faults.{fault_of}
 use Rattle.gaz_rows.specs.Index.{Slots}
-use Rattle.gaz_rows.specs.Store.{IsStoreBut, IsAnswer, Answers, IsSoundOver, IsSound}
 use Rattle.gaz_rows.specs.Laid.{ends_of}
+use Rattle.gaz_rows.specs.Store.{IsStoreBut, IsAnswer, Answers, IsSoundOver, IsSound}
 use Rattle.gaz_rows.specs.Found.{Finds, FindsCoded, FailsSoundly, GivesNext, if_coded, has_code}
 use Rattle.gaz_rows.proofs.Fit.{AreBytes}
 use Rattle.gaz_rows.proofs.Got.{IsKeyFor, IsKeyAlone, has_key, line_found, line_found_alone, line_at_key, record_there}

@@ -16,7 +16,7 @@ no_lines table some = record {
   within = some;
 }
 
-empty_is : IsGazetteer empty
+pub empty_is : IsGazetteer empty
 empty_is = record { tables = each; undated = λ is. refl }
   where
     each : (table : Table) → IsTable table (lines_in empty table)

@@ -1,6 +1,6 @@
 -- The admin codes with the same first bytes: their keys are a range, and the records there are their lines.
-use Rattle.std.proofs.Common.{◌≡◌, ◌<◌, ◌≤◌, ◌+◌, ◌-◌, ◌*◌, ◌^◌, ℕ, suc, Bool, true, false, List, [], ◌∷◌, length, map, filter, take, drop, refl, sym, ◌∙◌, ap, arith, subst, Option, Some, None, Result, Ok, Err}
-use Rattle.std.specs.Prelude.{All, Contains, find, IsTrue, IsSome, unwrap_or, option_and_then, is_some, bytes_eq, count_by, IfOk, IfErr}
+use Rattle.std.proofs.Common.{◌≡◌, ◌<◌, ◌≤◌, ◌+◌, ◌-◌, ◌*◌, ◌^◌, ℕ, suc, Bool, true, List, [], ◌∷◌, length, filter, take, drop, refl, sym, ◌∙◌, ap, arith, subst, Option, Some, None, Result, Ok, Err}
+use Rattle.std.specs.Prelude.{All, Contains, find, IsTrue, unwrap_or, option_and_then, is_some, bytes_eq, IfOk, IfErr}
 use Rattle.std.proofs.lemmas.Slice.Eq.{bytes_eq-Decides}
 use Rattle.std.proofs.lemmas.Map.Text.{is_eq-slice_cmp}
 use Rattle.std.proofs.lemmas.List.{length-map}
@@ -23,18 +23,14 @@ use Rattle.gaz_rows.specs.declared.fault.AskFault.{AskFault}
 use Rattle.gaz_tree.proofs.Fans.{head_within}
 use Rattle.gaz_scan.specs.Ranges.{between}
 use Rattle.gaz_keys.specs.Keys.{code_key}
-use Rattle.gaz_keys.specs.Lines.{more_keys}
 use Rattle.gaz_keys.specs.Parts.{tag_of, has_place}
-use Rattle.gaz_keys.proofs.Tags.{tag_at}
-use Rattle.gaz_rows.specs.Index.{line_key, IsKeyOf}
-use Rattle.gaz_rows.specs.Stands.{value_in}
-use Rattle.gaz_rows.specs.Store.{IsStoreBut, IsAnswer, Answers, IsSound, IsSoundOver}
+use Rattle.gaz_rows.specs.Index.{line_key}
 use Rattle.gaz_rows.specs.Laid.{ends_of}
+use Rattle.gaz_rows.specs.Store.{IsStoreBut, IsAnswer, Answers, IsSound, IsSoundOver}
 use Rattle.gaz_rows.specs.Found.{HaveRecords, OverRange, coded_in, has_code, like_codes, records_of}
 use Rattle.gaz_keys.proofs.Fit.{first_size}
 use Rattle.gaz_rows.proofs.Fit.{AreBytes, code_key_fits}
 use Rattle.gaz_rows.proofs.Finding.{same_found, kept_in, mapped_from, mapped_in, IsApart, no_longer}
-use Rattle.gaz_rows.proofs.Members.{head_is_in}
 use Rattle.gaz_rows.proofs.Keyed.{some_inj}
 use Rattle.gaz_rows.proofs.Got.{value_is, line_at_tag}
 use Rattle.gaz_rows.proofs.Ranged.{each_found, in_range, range_rises, found_in_range, slot_added, first_read}
@@ -78,7 +74,7 @@ module _ (waiting : List (List ℕ)) (gaz : Gazetteer) (v : PagesView) (root : R
       let small : slot < 2 ^ 32 = omega (arith, last, end, start) in
       let is : pair.key ≡ number_of (key slot) = let own = numbered slot small in omega (arith, own, start) in
       let that = line_at_tag waiting gaz v.page (ends_of v root) stands Codes (key slot) (code_key_fits code slot bytes) (code_tag (first_bytes 23 code) slot) pair.value
-          (subst (λ n. lookup n stands.pairs ≡ Some pair.value) is found)
+      (subst (λ n. lookup n stands.pairs ≡ Some pair.value) is found)
       in
       record { slot = slot; at = is; line = that.line; there = that.there; keyed = that.is; stands_at = that.stands }
 
@@ -115,8 +111,10 @@ module _ (waiting : List (List ℕ)) (gaz : Gazetteer) (v : PagesView) (root : R
     where
       slot : ℕ
       slot = stands.slots (column 1 line)
+
       small : slot < 2 ^ 32
       small = stands.indexed.slots_differ.fit line there
+
       by : (found : Option ℕ) → lookup (number_of (key slot)) stands.pairs ≡ found → option_and_then (record_at v.page) found ≡ Some line → Contains (records_of v.page range) line
       by None is stands_at = absurd (cc)
       by (Some place) is stands_at =
@@ -158,26 +156,27 @@ module _ (waiting : List (List ℕ)) (gaz : Gazetteer) (v : PagesView) (root : R
   apart_in : (low high : ℕ) (ps : List Pair) → Within low high ps → All IsCoded ps → IsApart (records_of v.page ps)
   apart_in low high [] rises all = tt
   apart_in low high (p ∷ ps) rises all =
-      let rest : All IsCoded ps = λ k d below. all (suc k) d (omega (arith, below)) in
-      (λ has.
-          let from = mapped_from (record_of v) ps (record_of v p) has in
-          let above = (All-contains (λ q. (suc p.key ≤ q.key) × (lookup q.key ps ≡ Some q.value)) ps from.0 (each_found (suc p.key) high ps rises.1) from.1).0 in
-          let same = same_pair from.0 p (All-contains IsCoded ps from.0 rest from.1) (all 0 p (omega arith)) from.2 in
-          absurd (omega (arith, above, same)),
-      apart_in (suc p.key) high ps rises.1 rest)
+      let rest : All IsCoded ps = λ k d below. all (suc k) d (omega (arith, below)) in (
+        λ has.
+            let from = mapped_from (record_of v) ps (record_of v p) has in
+            let above = (All-contains (λ q. (suc p.key ≤ q.key) × (lookup q.key ps ≡ Some q.value)) ps from.0 (each_found (suc p.key) high ps rises.1) from.1).0 in
+            let same = same_pair from.0 p (All-contains IsCoded ps from.0 rest from.1) (all 0 p (omega arith)) from.2 in
+            absurd (omega (arith, above, same)),
+        apart_in (suc p.key) high ps rises.1 rest,
+      )
 
   -- There are no more pairs than codes with these first bytes.
   pub range_few : length range ≤ like_codes gaz code
   range_few =
       let like_one : List ℕ → Bool = λ line. bytes_eq (first_bytes 23 (column 1 line)) (first_bytes 23 code) in
       let few = no_longer (records_of v.page range) (filter like_one gaz.codes)
-          (apart_in 0 (2 ^ 256) range (range_rises (number_of (key 0)) (number_of (key (2 ^ 32 - 1))) 0 (2 ^ 256) stands.pairs within) all_coded)
-          (λ line has.
-              let from = mapped_from (record_of v) range line has in
-              let is = All-contains IsCoded range from.0 all_coded from.1 in
-              let line_here : is.line ≡ line = sym (line_is from.0 is) ∙ from.2 in
-              kept_in like_one gaz.codes line (lines_are line has)
-              ((bytes_eq-Decides (first_bytes 23 (column 1 line)) (first_bytes 23 code)).1 (ap (λ l. first_bytes 23 (column 1 l)) (sym line_here) ∙ like from.0 is)))
+      (apart_in 0 (2 ^ 256) range (range_rises (number_of (key 0)) (number_of (key (2 ^ 32 - 1))) 0 (2 ^ 256) stands.pairs within) all_coded)
+      (λ line has.
+      let from = mapped_from (record_of v) range line has in
+      let is = All-contains IsCoded range from.0 all_coded from.1 in
+      let line_here : is.line ≡ line = sym (line_is from.0 is) ∙ from.2 in
+      kept_in like_one gaz.codes line (lines_are line has)
+      ((bytes_eq-Decides (first_bytes 23 (column 1 line)) (first_bytes 23 code)).1 (ap (λ l. first_bytes 23 (column 1 l)) (sym line_here) ∙ like from.0 is)))
       in
       let long = length-map range (record_of v) in
       let counted = length-filter like_one gaz.codes in

@@ -1,6 +1,6 @@
 -- What is found in a list by a test.
-use Rattle.std.proofs.Common.{◌≡◌, ◌<◌, ◌≤◌, ℕ, zero, suc, arith, subst, length, map, filter, List, [], ◌∷◌, refl, sym, ◌∙◌, ap, inl, inr, true, false, Bool, Some, None}
-use Rattle.std.specs.Prelude.{◌⊎◌, Contains, find, if◌then◌else◌}
+use Rattle.std.proofs.Common.{◌≡◌, ◌≤◌, suc, arith, subst, length, map, filter, List, [], ◌∷◌, refl, sym, ◌∙◌, ap, inl, inr, true, false, Bool, Some, None}
+use Rattle.std.specs.Prelude.{◌⊎◌, Contains, find}
 use Rattle.gaz_keys.proofs.Tags.{contained, contained_none}
 use Rattle.gaz_rows.proofs.Members.{head_is_in, tail_is_in}
 
@@ -45,13 +45,14 @@ module _ {X : Type 0} (p : X → Bool) where
   pub same_found : (xs ys : List X) → ((y : X) → Contains ys y → Contains xs y) → ((x : X) → Contains xs x → p x ≡ true → Contains ys x) → ((x y : X) → Contains xs x → Contains xs y → p x ≡ true → p y ≡ true → x ≡ y) → find p ys ≡ find p xs
   same_found xs ys part all only = elim (one_or_none ys) [
     | inl one ↦
-      found_one ys one.0 one.1 one.2 (λ z there also. only z one.0 (part z there) (part one.0 one.1) also one.2)
-      ∙ sym (found_one xs one.0 (part one.0 one.1) one.2 (λ z there also. only z one.0 there (part one.0 one.1) also one.2))
+        found_one ys one.0 one.1 one.2 (λ z there also. only z one.0 (part z there) (part one.0 one.1) also one.2)
+        ∙ sym (found_one xs one.0 (part one.0 one.1) one.2 (λ z there also. only z one.0 there (part one.0 one.1) also one.2))
     | inr none ↦ found_none ys none ∙ sym (found_none xs (λ x there. by x there (p x) refl none))
   ]
     where
       never : false ≡ true → ⊥
       never is = cc
+
       by : (x : X) → Contains xs x → (b : Bool) → p x ≡ b → ((y : X) → Contains ys y → p y ≡ false) → p x ≡ false
       by x there true is none = absurd (never (sym (none x (all x there is)) ∙ is))
       by x there false is none = is
@@ -63,6 +64,7 @@ module _ {X : Type 0} (p : X → Bool) where
     where
       never : false ≡ true → ⊥
       never is = cc
+
       by : (b : Bool) → p z ≡ b → (z ≡ x) ⊎ Contains zs x → (Contains zs x → Contains (filter p zs) x) → Contains (filter p (z ∷ zs)) x
       by true kept (inl same) rest = rw kept (subst (Contains (z ∷ filter p zs)) same (head_is_in z (filter p zs)))
       by true kept (inr later) rest = rw kept (tail_is_in z (filter p zs) x (rest later))
@@ -102,8 +104,8 @@ module _ {X : Type 0} where
   taken_out (z ∷ zs) x has = elim (contained z zs x has) [
     | inl is ↦ record { rest = zs; long = refl; keeps = λ y there other. elim (contained z zs y there) [ inl same ↦ absurd (other (sym is ∙ same)) | inr later ↦ later ] }
     | inr later ↦
-      let more = taken_out zs x later in
-      record { rest = z ∷ more.rest; long = ap suc more.long; keeps = λ y there other. elim (contained z zs y there) [ inl same ↦ subst (Contains (z ∷ more.rest)) same (head_is_in z more.rest) | inr behind_it ↦ tail_is_in z more.rest y (more.keeps y behind_it other) ] }
+        let more = taken_out zs x later in
+        record { rest = z ∷ more.rest; long = ap suc more.long; keeps = λ y there other. elim (contained z zs y there) [ inl same ↦ subst (Contains (z ∷ more.rest)) same (head_is_in z more.rest) | inr behind_it ↦ tail_is_in z more.rest y (more.keeps y behind_it other) ] }
   ]
 
   -- a list whose elements are apart is no longer than one that has them all

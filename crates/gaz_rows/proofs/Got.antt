@@ -74,6 +74,7 @@ module _ (slots : Slots) (gaz : Gazetteer) (value : List ℕ → Option ℕ) (by
     where
       none_is_some : (line : List ℕ) → None ≡ Some line → ⊥
       none_is_some line is = cc
+
       by : (line : List ℕ) → Contains (lines_in gaz table) line → (b : Bool) → has_key table asked line ≡ b → has_key table asked line ≡ false
       by line there true has = absurd (none_is_some line (sym is ∙ one_line line there has))
       by line there false has = has
@@ -84,9 +85,11 @@ module _ (slots : Slots) (gaz : Gazetteer) (value : List ℕ → Option ℕ) (by
     where
       same : (y : List ℕ) → Contains (lines_in gaz table) y → has_key table asked y ≡ true → y ≡ line
       same y also has = some_inj y line (sym (one_line y also has) ∙ is)
+
       other : has_key table asked line ≡ false → (y : List ℕ) → Contains (lines_in gaz table) y → (b : Bool) → has_key table asked y ≡ b → has_key table asked y ≡ false
       other lacks y also true has = absurd (never (sym lacks ∙ ap (has_key table asked) (sym (same y also has)) ∙ has))
       other lacks y also false has = has
+
       by : (b : Bool) → has_key table asked line ≡ b → line_with table asked gaz ≡ option_filter (has_key table asked) (Some line)
       by true has = rw has (found_one (has_key table asked) (lines_in gaz table) line there has same)
       by false lacks = rw lacks (found_none (has_key table asked) (lines_in gaz table) (λ y also. other lacks y also (has_key table asked y) refl))
@@ -113,7 +116,7 @@ module _ (slots : Slots) (gaz : Gazetteer) (value : List ℕ → Option ℕ) (by
   found_alone alone (Some place) is =
       let that = that_line place is in
       let has : has_key table asked that.line ≡ true =
-          ap (λ k. is_eq (key_cmp k asked)) (alone that.line (is_line that.line that.there) that.is) ∙ ap is_eq (key_ties asked)
+      ap (λ k. is_eq (key_cmp k asked)) (alone that.line (is_line that.line that.there) that.is) ∙ ap is_eq (key_ties asked)
       in
       line_there that.line that.there (stands_there place is) ∙ ap (λ b. if b then Some that.line else None) has ∙ sym (stands_there place is)
 

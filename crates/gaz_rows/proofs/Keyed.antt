@@ -1,5 +1,5 @@
 -- Keys with a place, and the lines that have them.
-use Rattle.std.proofs.Common.{◌≡◌, ℕ, List, ◌∷◌, refl, sym, ◌∙◌, ap, subst, inl, inr, true, false, Some}
+use Rattle.std.proofs.Common.{◌≡◌, ℕ, List, sym, ◌∙◌, ap, subst, inl, inr, true, false, Some}
 use Rattle.std.specs.Prelude.{Contains, unwrap_or}
 use Rattle.gaz_num.specs.Pieces.{column}
 use Rattle.gaz_plain.specs.Gazetteer.{Gazetteer}

@@ -1,19 +1,13 @@
 -- Which key of the index the lines with a key of their table have.
-use Rattle.std.proofs.Common.{◌≡◌, ◌<◌, ℕ, ◌-◌, ◌^◌, List, [], ◌∷◌, refl, sym, ◌∙◌, ap, arith, true, false, Bool, Option, Some, None}
-use Rattle.std.specs.Prelude.{option_and_then, option_map, unwrap_or, if◌then◌else◌, IsSome, ◌&&◌, nat_lt, nat_le, is_some}
-use Rattle.std.proofs.lemmas.Bool.{leb-true}
-use Rattle.gaz_num.specs.Numbers.{some_if, id_in, number_in, is_digits}
-use Rattle.std.specs.Str.Parse.{digits_value}
-use Rattle.gaz_num.specs.Check.{is_comment, id_key}
+use Rattle.std.proofs.Common.{◌≡◌, ◌<◌, ℕ, ◌^◌, List, [], ◌∷◌, refl, sym, ◌∙◌, ap, Option, Some, None}
+use Rattle.std.specs.Prelude.{option_map, unwrap_or, if◌then◌else◌, IsSome}
+use Rattle.gaz_num.specs.Numbers.{id_in}
 use Rattle.gaz_num.specs.Pieces.{column}
 use Rattle.gaz_num.specs.declared.words.Kind.TheVariants as kind
-use Rattle.gaz_num.proofs.CalendarLemmas.{and_left, and_right}
-use Rattle.gaz_num.specs.declared.words.Table.{Table}
 use Rattle.gaz_num.specs.declared.words.Table.TheVariants.{Rows, Alternates, Countries}
 use Rattle.gaz_plain.specs.Gazetteer.{IsLine, key_of}
 use Rattle.gaz_name.specs.Name.{first_bytes}
-use Rattle.gaz_keys.specs.Keys.{IsKey, place_key, alternate_key, country_key}
-use Rattle.gaz_keys.specs.Parts.{tag_of}
+use Rattle.gaz_keys.specs.Keys.{place_key, alternate_key, country_key}
 use Rattle.gaz_keys.specs.Lines.{id_at}
 use Rattle.gaz_keys.proofs.Made.{places_differ, alternates_differ}
 use Rattle.gaz_rows.specs.Index.{Slots}

@@ -1,7 +1,6 @@
 -- A look at the next line of a scan, and looks one after the other.
-use Rattle.std.proofs.Common.{◌≡◌, ◌<◌, ◌≤◌, ◌+◌, ◌*◌, ℕ, suc, List, [], ◌∷◌, length, refl, sym, ◌∙◌, ap, arith, subst, true, false, Option, Some, None, Result, Ok, Err, take}
-use Rattle.std.proofs.Math.Nat.{mul-le-mul_left}
-use Rattle.std.specs.Prelude.{IsTrue, IsSome, All, find, IfOk, IfErr, Bool}
+use Rattle.std.proofs.Common.{◌≡◌, ◌≤◌, ◌+◌, ℕ, suc, List, ◌∷◌, length, refl, sym, ◌∙◌, ap, arith, subst, true, false, Some, None, Result, Ok, Err}
+use Rattle.std.specs.Prelude.{IsTrue, IsSome}
 use Rattle.gaz_page.specs.Pages.{PagesView, SamePages, Counts}
 use Rattle.gaz_heap.specs.Place.{record_at}
 use Rattle.gaz_leaf.specs.Node.{Pair, key_of}
@@ -9,10 +8,8 @@ use Rattle.gaz_scan.specs.declared.scan.Scan.{Scan}
 use Rattle.gaz_scan.specs.Scan.{Comes, IsGiven}
 use Rattle.gaz_rows.specs.declared.fault.AskFault.{AskFault}
 use Rattle.gaz_rows.specs.declared.fault.AskFault.TheVariants.{Failed, Damaged, Memory}
-use Rattle.gaz_rows.specs.declared.codes.Look.{Look}
-use Rattle.gaz_rows.specs.declared.codes.Look.TheVariants.{Last, Found, Other}
-use Rattle.gaz_rows.specs.Store.{HasAsked, HasAskCause, UnlessFailed, FailsOnce, StarvesBy, IsSound, IsAnswer}
-use Rattle.gaz_rows.specs.Found.{GivesNext, HaveRecords, ArePassed, Looks, coded_in, has_code, records_of}
+use Rattle.gaz_rows.specs.Store.{HasAsked, UnlessFailed, FailsOnce, StarvesBy, IsSound}
+use Rattle.gaz_rows.specs.Found.{GivesNext, HaveRecords, ArePassed, coded_in, has_code}
 
 pub none_left : (code : List ℕ) (old new : ℕ → List ℕ) (scan : Scan) (left : List Pair) → GivesNext old new scan left (Ok None) → coded_in code old left ≡ None
 none_left code old new scan left gives = ap (coded_in code old) gives.0
@@ -50,9 +47,6 @@ module _ (code : List ℕ) (old mid new : ℕ → List ℕ) (scan : Scan) (left 
 
 -- ---- one call after the other
 
-pub passed_none : (code : List ℕ) (pages : ℕ → List ℕ) (scan : Scan) (left : List Pair) → Comes pages scan left → HaveRecords pages left → ArePassed 0 code pages pages scan left
-passed_none code pages scan left comes have = record { rest = left; comes = comes; have = have; same = refl; count = omega arith }
-
 pub passed_on : (turns : ℕ) (code : List ℕ) (old mid new : ℕ → List ℕ) (scan scan_now : Scan) (left : List Pair) (p : ArePassed turns code old mid scan left) → ArePassed 1 code mid new scan_now p.rest → ArePassed (turns + 1) code old new scan_now left
 passed_on turns code old mid new scan scan_now left p q =
     let before = p.count in
@@ -64,15 +58,6 @@ unless (Ok given) P Q to is = to is
 unless (Err Failed) P Q to is = tt
 unless (Err (Damaged page)) P Q to is = to is
 unless (Err Memory) P Q to is = to is
-
-pub asked_none : (v : PagesView) → HasAsked {T = Unit} 0 v v (Ok tt)
-asked_none v = record {
-  same = λ told. record { pages = refl; free = refl; fresh = refl };
-  counts = record { told = refl; read_only = refl; reads_grow = omega arith; reads = omega arith; changed = omega arith };
-  unchanged = refl;
-  cause = record { grows = omega arith; counted = refl; starved = refl };
-  no_memory = tt;
-}
 
 counts_on : (some more most : ℕ) (old mid new : PagesView) → some + more ≤ most → Counts some 0 old mid → Counts more 0 mid new → Counts most 0 old new
 counts_on some more most old mid new le a b =
@@ -112,14 +97,3 @@ module _ {S T : Type 0} (some more most : ℕ) (old mid new : PagesView) (given 
 pub asked_ok : {S T : Type 0} (most : ℕ) (old new : PagesView) (given : S) (other : T) → HasAsked most old new (Ok given) → HasAsked most old new (Ok other)
 asked_ok most old new given other a =
     record { same = a.same; counts = a.counts; unchanged = a.unchanged; cause = record { grows = a.cause.grows; counted = a.cause.counted; starved = a.cause.starved }; no_memory = tt }
-
-pub asked_failed : {S T : Type 0} (most : ℕ) (old new : PagesView) (fault : AskFault) → HasAsked {T = S} most old new (Err fault) → HasAsked {T = T} most old new (Err fault)
-asked_failed most old new Failed a =
-    record { same = a.same; counts = a.counts; unchanged = a.unchanged; cause = record { grows = a.cause.grows; counted = a.cause.counted; starved = a.cause.starved }; no_memory = tt }
-asked_failed most old new (Damaged page) a =
-    record { same = a.same; counts = a.counts; unchanged = a.unchanged; cause = record { grows = a.cause.grows; counted = a.cause.counted; starved = a.cause.starved }; no_memory = tt }
-asked_failed most old new Memory a = absurd a.no_memory
-
--- one more turn
-pub times : (k turns most : ℕ) → turns ≤ most → k * turns + k ≤ k * (most + 1)
-times k turns most le = let product : k * turns ≤ k * most = mul-le-mul_left k le in omega (arith, product)

@@ -1,6 +1,6 @@
 -- The line at the place of a key.
 use Rattle.std.proofs.Common.{◌≡◌, ℕ, List, refl, sym, ◌∙◌, ap, subst, Some, take, Result, Ok, Err}
-use Rattle.std.specs.Prelude.{IsTrue, IsSome, Contains, option_and_then, is_some, IfOk, IfErr}
+use Rattle.std.specs.Prelude.{IsTrue, IsSome, option_and_then, is_some, IfOk, IfErr}
 use Rattle.gaz_num.specs.Pieces.{column}
 use Rattle.gaz_plain.specs.Gazetteer.{Gazetteer}
 use Rattle.gaz_page.specs.declared.tree_root.Root.{Root}
@@ -11,8 +11,8 @@ use Rattle.gaz_tree.specs.Pairs.{lookup}
 use Rattle.gaz_rows.specs.declared.fault.AskFault.{AskFault}
 use Rattle.gaz_rows.specs.Index.{line_key, IsKeyOf}
 use Rattle.gaz_rows.specs.Stands.{value_in}
-use Rattle.gaz_rows.specs.Store.{IsStoreBut, IsSound}
 use Rattle.gaz_rows.specs.Laid.{ends_of}
+use Rattle.gaz_rows.specs.Store.{IsStoreBut, IsSound}
 use Rattle.gaz_rows.specs.Found.{IsPlaceOf, IsLineOf, OverPlace}
 use Rattle.gaz_rows.proofs.Got.{value_is}
 use Rattle.gaz_rows.proofs.Keyed.{placed, some_inj}

@@ -1,14 +1,14 @@
 -- The pairs of a tree whose keys lie in a range, and the range of the keys of admin codes with equal first bytes.
-use Rattle.std.proofs.Common.{◌≡◌, ◌≢◌, ◌<◌, ◌≤◌, ◌+◌, ◌*◌, ◌^◌, ℕ, zero, suc, Bool, true, false, List, [], ◌∷◌, ◌++◌, length, take, drop, replicate, refl, sym, ◌∙◌, ap, arith, subst, Some, None}
+use Rattle.std.proofs.Common.{◌≡◌, ◌<◌, ◌≤◌, ◌+◌, ◌^◌, ℕ, suc, Bool, true, false, List, [], ◌∷◌, ◌++◌, length, take, drop, replicate, refl, sym, ◌∙◌, ap, arith, subst, Some}
 use Rattle.std.specs.Prelude.{All, Contains, nat_lt, ◌==◌, if◌then◌else◌}
 use Rattle.std.specs.Int.{w32, w64, to_be_bytes, from_be_bytes}
-use Rattle.std.proofs.lemmas.Bool.{eqb-true, leb-true}
+use Rattle.std.proofs.lemmas.Bool.{eqb-true}
 use Rattle.std.proofs.lemmas.Bool.Decides.{nat_tests}
 use Rattle.std.proofs.lemmas.Nat.{from_be_bytes-to_be_bytes_4}
 use Rattle.std.proofs.lemmas.List.{drop-append-le, take-append-le, length-append, length-replicate, length-drop}
 use Rattle.std.proofs.Math.Seq.{drop-append_seam, take-append_seam}
 use Rattle.std.proofs.lemmas.List.Elements.{All-cons}
-use Rattle.gaz_leaf.specs.Node.{Pair, key_of, joined, word_at}
+use Rattle.gaz_leaf.specs.Node.{Pair, key_of, word_at}
 use Rattle.gaz_tree.specs.Pairs.{Within, lookup}
 use Rattle.gaz_tree.proofs.Lists.{lookup-same, lookup-other, Within-lower}
 use Rattle.gaz_scan.specs.Ranges.{between}
@@ -23,8 +23,8 @@ each_found low high (p ∷ ps) within =
     let rest = each_found (suc p.key) high ps within.1 in
     All-cons (λ q. (low ≤ q.key) × (lookup q.key (p ∷ ps) ≡ Some q.value)) p ps (start, lookup-same p.key p ps refl)
     (λ k d below.
-        let later = (rest k d below).0 in
-        (omega (arith, later, start), lookup-other _ p ps (λ same. absurd (omega (arith, later, same))) ∙ (rest k d below).1))
+    let later = (rest k d below).0 in
+    (omega (arith, later, start), lookup-other _ p ps (λ same. absurd (omega (arith, later, same))) ∙ (rest k d below).1))
 
 -- what holds of all pairs holds of those of the range, which have their keys in it
 pub in_range : (P : Pair → Type 0) (low high : ℕ) (ps : List Pair) → All P ps → All (λ p. P p × (low ≤ p.key) × (p.key ≤ high)) (between low high ps)
@@ -44,6 +44,7 @@ range_rises low high from most (p ∷ ps) within = by (nat_lt p.key low) (nat_lt
   where
     start : from ≤ p.key
     start = within.0
+
     by : (less more : Bool) → nat_lt p.key low ≡ less → nat_lt high p.key ≡ more → Within (suc p.key) most (between low high ps) → Within from most (between low high (p ∷ ps))
     by true more is also rest = rw is (Within-lower (suc p.key) from most (between low high ps) (omega (arith, start)) rest)
     by false true is also rest = rw (is, also) (Within-lower (suc p.key) from most (between low high ps) (omega (arith, start)) rest)
@@ -56,18 +57,24 @@ found_in_range low high key value (p ∷ ps) is start end = by (p.key == key) re
   where
     one : Pair
     one = record { key = key; value = value }
+
     none_below : nat_lt key low ≡ false
     none_below = grind (arith, nat_tests, start)
+
     none_above : nat_lt high key ≡ false
     none_above = grind (arith, nat_tests, end)
+
     this : p.key ≡ key → p.value ≡ value → Contains (between low high (p ∷ ps)) one
     this k v = subst (λ q. Contains (between low high (q ∷ ps)) one) (sym (ap (λ x. record { key = x; value = p.value }) k ∙ ap (λ x. record { key = key; value = x }) v)) (rw (none_below, none_above) (head_is_in one (between low high ps)))
+
     behind : (less more : Bool) → nat_lt p.key low ≡ less → nat_lt high p.key ≡ more → Contains (between low high ps) one → Contains (between low high (p ∷ ps)) one
     behind true more e f rest = rw e rest
     behind false true e f rest = rw (e, f) rest
     behind false false e f rest = rw (e, f) (tail_is_in p (between low high ps) one rest)
+
     same_value : Some p.value ≡ Some value → p.value ≡ value
     same_value e = cc
+
     by : (b : Bool) → (p.key == key) ≡ b → (if b then Some p.value else lookup key ps) ≡ Some value → (lookup key ps ≡ Some value → low ≤ key → key ≤ high → Contains (between low high ps) one) → Contains (between low high (p ∷ ps)) one
     by true e found rest = this (eqb-true p.key key e) (same_value found)
     by false e found rest = behind (nat_lt p.key low) (nat_lt high p.key) refl refl (rest found start end)
@@ -101,6 +108,7 @@ module _ (first : List ℕ) (size : length first ≡ 23) where
         where
           zeros : drop 24 front ≡ replicate 4 0
           zeros = ap (λ n. drop (suc n) front) (sym size) ∙ drop-append_seam first (replicate 4 0)
+
       number : from_be_bytes w64 (take 8 (replicate 4 0 ++ to_be_bytes w32 slot)) ≡ slot
       number = let back = from_be_bytes-to_be_bytes_4 slot below in omega (arith, back)
 

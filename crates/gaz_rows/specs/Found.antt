@@ -109,6 +109,11 @@ Looks code old new scan buf left (Ok (Found size)) = coded_in code old left ≡ 
 Looks code old new scan buf left (Ok Other) = ArePassed 1 code old new scan left
 Looks code old new scan buf left (Err fault) = IsSound fault
 
+-- A line that is found has at most 65,535 bytes.
+abbrev pub IsShort : Look → Type 0
+IsShort (Found size) = size ≤ 65535
+IsShort other = Unit
+
 -- P holds of the pairs that a scan has still to give, where records stand at their places, and there are no more than so many.
 abbrev pub OverRange : ℕ → PagesView → Scan → (List Pair → Type 0) → Type 0
 OverRange most v scan P =

@@ -1,11 +1,11 @@
 //! Admin codes: of those with equal first bytes, which share all of their keys but the slot, the one that is asked for.
-ghost use Rattle.std.specs.Prelude.{◌≡◌, ◌≤◌, ◌+◌, ◌*◌, ℕ, List, length, IsTrue, IfOk, IfErr};
+ghost use Rattle.std.specs.Prelude.{◌≡◌, ◌≤◌, ◌+◌, ◌*◌, ℕ, List, length, IsTrue, IfOk, IfErr, IfSome};
 ghost use Rattle.gaz_num.specs.declared.words.Table.TheVariants.{Codes};
 ghost use Rattle.gaz_plain.specs.Gazetteer.{Gazetteer};
 ghost use Rattle.gaz_leaf.specs.Node.{Pair};
 ghost use Rattle.gaz_scan.specs.Scan.{Comes, tree_of};
 ghost use Rattle.gaz_rows.specs.Store.{Answers, HasAsked, IsAnswer, IsSoundOver, IsSound, IsStoreBut};
-ghost use Rattle.gaz_rows.specs.Found.{Looks, OverRange, HaveRecords, coded_in, like_codes};
+ghost use Rattle.gaz_rows.specs.Found.{Looks, IsShort, OverRange, HaveRecords, coded_in, like_codes};
 
 use crate::fault::AskFault;
 use crate::store::{RowStore, has_code};
@@ -29,6 +29,7 @@ impl<P: Pages> RowStore<P> {
         requires room { 65535 ≤ length buf.old }
         ensures looks { IsTrue (P.view self.old.pages).is_told → (left : List Pair) → Comes (P.view self.old.pages).page scan.old left
             → HaveRecords (P.view self.old.pages).page left → Looks code.now (P.view self.old.pages).page (P.view self.new.pages).page scan.new buf.new left result }
+        ensures fits { IfOk result IsShort }
         ensures tree { tree_of scan.new ≡ tree_of scan.old }
         ensures size { length buf.new ≡ length buf.old }
         ensures asked { HasAsked (2 * (tree_of scan.old).height + 17) (P.view self.old.pages) (P.view self.new.pages) result }
@@ -56,6 +57,7 @@ impl<P: Pages> RowStore<P> {
         buf: &mut [u8],
     ) -> Result<Option<usize>, AskFault>
         requires room { 65535 ≤ length buf.old }
+        ensures fits { IfOk result (λ found. IfSome found (λ size. size ≤ 65535)) }
         ensures line { IfOk result (λ found. OverRange self.old.root.counts.codes (P.view self.old.pages) scan.old (λ left. IsAnswer (coded_in code.now (P.view self.old.pages).page left) buf.new found)) }
         ensures damaged { IfErr result (λ fault. OverRange self.old.root.counts.codes (P.view self.old.pages) scan.old (λ left. IsSound fault)) }
         ensures few { OverRange self.old.root.counts.codes (P.view self.old.pages) scan.old
@@ -82,6 +84,7 @@ impl<P: Pages> RowStore<P> {
     pub fn get_code(&mut self, code: &[u8], buf: &mut [u8]) -> Result<Option<usize>, AskFault>
         requires room { 65535 ≤ length buf.old }
         ensures line { IfOk result (Answers Codes code.now (P.view self.old.pages) self.old.root buf.new) }
+        ensures fits { IfOk result (λ found. IfSome found (λ size. size ≤ 65535)) }
         ensures damaged { IfErr result (IsSoundOver (P.view self.old.pages) self.old.root) }
         ensures few { IsTrue (P.view self.old.pages).is_told → (waiting : List (List ℕ)) (gaz : Gazetteer) → IsStoreBut waiting gaz (P.view self.old.pages) self.old.root
             → (P.view self.new.pages).reads ≤ (P.view self.old.pages).reads + (2 * self.old.root.height + 17) * (like_codes gaz code.now + 1) }

@@ -112,6 +112,7 @@ impl<P: Pages> RowStore<P> {
     pub fn get_row(&mut self, id: u32, buf: &mut [u8]) -> Result<Option<usize>, AskFault>
         requires room { 65535 ≤ length buf.old }
         ensures line { IfOk result (Answers Rows (id ∷ []) (P.view self.old.pages) self.old.root buf.new) }
+        ensures fits { IfOk result (λ found. IfSome found (λ size. size ≤ 65535)) }
         ensures damaged { IfErr result (IsSoundOver (P.view self.old.pages) self.old.root) }
         ensures size { length buf.new ≡ length buf.old }
         ensures asked { HasAsked (self.old.root.height + 17) (P.view self.old.pages) (P.view self.new.pages) result }
@@ -125,6 +126,7 @@ impl<P: Pages> RowStore<P> {
     pub fn get_alt(&mut self, id: u32, buf: &mut [u8]) -> Result<Option<usize>, AskFault>
         requires room { 65535 ≤ length buf.old }
         ensures line { IfOk result (Answers Alternates (id ∷ []) (P.view self.old.pages) self.old.root buf.new) }
+        ensures fits { IfOk result (λ found. IfSome found (λ size. size ≤ 65535)) }
         ensures damaged { IfErr result (IsSoundOver (P.view self.old.pages) self.old.root) }
         ensures size { length buf.new ≡ length buf.old }
         ensures asked { HasAsked (self.old.root.height + 17) (P.view self.old.pages) (P.view self.new.pages) result }
@@ -135,9 +137,15 @@ impl<P: Pages> RowStore<P> {
     }
 
     /// The line at the place of a key, if the first column of it is the code.
-    fn get_coded(&mut self, key: &[u8; 32], code: &[u8], buf: &mut [u8]) -> Result<Option<usize>, AskFault>
+    fn get_coded(
+        &mut self,
+        key: &[u8; 32],
+        code: &[u8],
+        buf: &mut [u8],
+    ) -> Result<Option<usize>, AskFault>
         requires room { 65535 ≤ length buf.old }
         ensures line { IfOk result (FindsCoded key.now code.now (P.view self.old.pages) self.old.root buf.new) }
+        ensures fits { IfOk result (λ found. IfSome found (λ size. size ≤ 65535)) }
         ensures damaged { IfErr result (FailsSoundly key.now (P.view self.old.pages) self.old.root) }
         ensures size { length buf.new ≡ length buf.old }
         ensures asked { HasAsked (self.old.root.height + 17) (P.view self.old.pages) (P.view self.new.pages) result }
@@ -155,6 +163,7 @@ impl<P: Pages> RowStore<P> {
     pub fn get_country(&mut self, code: &[u8], buf: &mut [u8]) -> Result<Option<usize>, AskFault>
         requires room { 65535 ≤ length buf.old }
         ensures line { IfOk result (Answers Countries code.now (P.view self.old.pages) self.old.root buf.new) }
+        ensures fits { IfOk result (λ found. IfSome found (λ size. size ≤ 65535)) }
         ensures damaged { IfErr result (IsSoundOver (P.view self.old.pages) self.old.root) }
         ensures size { length buf.new ≡ length buf.old }
         ensures asked { HasAsked (self.old.root.height + 17) (P.view self.old.pages) (P.view self.new.pages) result }

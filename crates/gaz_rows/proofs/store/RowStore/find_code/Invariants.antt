@@ -1,4 +1,4 @@
-use Rattle.std.proofs.Common.{◌≡◌, ◌≤◌, ◌+◌, ◌*◌, length, Ok}
+use Rattle.std.proofs.Common.{◌≡◌, ◌+◌, ◌*◌, length, Ok}
 use Rattle.gaz_scan.specs.Scan.{tree_of}
 use Rattle.gaz_rows.specs.Store.{HasAsked}
 use Rattle.gaz_rows.specs.Found.{OverRange, ArePassed}

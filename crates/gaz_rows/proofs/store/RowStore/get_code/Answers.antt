@@ -1,4 +1,4 @@
-use Rattle.std.proofs.Common.{◌<◌, ◌≤◌, ◌-◌, ◌+◌, ◌*◌, ◌^◌, ◌∙◌, ap, arith, sym, subst, length}
+use Rattle.std.proofs.Common.{◌<◌, ◌≤◌, ◌+◌, ◌*◌, arith, subst, length}
 use Rattle.std.proofs.lemmas.List.Elements.{All-from_get_or}
 use Rattle.gaz_rows.specs.Found.{OverRange}
 use Rattle.gaz_rows.proofs.Coded.{code_answered, code_sound, code_reads}
@@ -27,6 +27,6 @@ returns-clause-few g c =
     code_reads (g.P.Pages.view c.args.self.now.pages) c.args.self.now.root code (All-from_get_or (λ byte. byte < 256) code 0 (λ i below. let fits = c.type_inv.code i in omega (arith, fits)))
     c.scan-scan.result c.code_key_of.result c.code_key_of-2.result (c.code_key_of.ensures, c.code_key_of-2.ensures)
     c.scan-scan.ensures.comes
-    (view c.find_code.new.self.pages).reads (2 * c.args.self.now.root.height + 17) 
+    (view c.find_code.new.self.pages).reads (2 * c.args.self.now.root.height + 17)
     (subst (λ height. OverRange c.args.self.now.root.counts.codes (view c.args.self.now.pages) c.scan-scan.result
     (λ left. (view c.find_code.new.self.pages).reads ≤ (view c.args.self.now.pages).reads + (2 * height + 17) * (length left + 1))) c.scan-scan.ensures.height c.find_code.ensures.few)

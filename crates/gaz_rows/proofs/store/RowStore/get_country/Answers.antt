@@ -1,4 +1,4 @@
-use Rattle.std.proofs.Common.{◌<◌, ap, ◌∙◌, arith}
+use Rattle.std.proofs.Common.{◌<◌, arith}
 use Rattle.std.proofs.lemmas.List.Elements.{All-from_get_or}
 use Rattle.gaz_num.specs.declared.words.Table.TheVariants.{Countries}
 use Rattle.gaz_name.specs.Name.{first_bytes}
