@@ -9,7 +9,7 @@ use Rattle.gaz_tree.specs.Put.{HasChain, left_of, Trades, Changes, TakesFew}
 use Rattle.gaz_tree.specs.Remove.{Returns}
 use Rattle.gaz_tree.specs.Stands.{Stands as IsTreeOf, OfTree}
 use Rattle.gaz_heap.specs.Place.{record_at, page_of}
-use Rattle.gaz_heap.specs.Facts.{Holds, Puts, Drops}
+use Rattle.gaz_heap.specs.Facts.{Holds, Puts, Drops, Replaces}
 use Rattle.gaz_heap.specs.Heap.{HasUsed}
 use Rattle.gaz_plain.specs.Gazetteer.{Gazetteer}
 use Rattle.gaz_rows.specs.Stands.{AreUsedOnce, StandsForBut, places_in}
@@ -87,6 +87,19 @@ AfterRecordDropped =
     → (Contains kept (page_of place) → page_of place ≡ current)
     → Drops old new current laid.tree.chain.frees place
     → LaidWithout old new root pairs kept places place
+
+-- what a record that is put in place of another one leaves
+pub record LaidAgain (old new : PagesView) (root : Root) (pairs : List Pair) (kept places : List ℕ) (place : ℕ) : Type 0 where
+  pub laid : IsLaid new root pairs kept places
+  pub same : SameRecords old new (all_but place places)
+  pub room : (n : ℕ) → HasRoom n old → HasRoom n new
+
+-- A record is put in place of the one that stands at a place. No page is taken or given.
+abbrev pub AfterReplaced : Type 0
+AfterReplaced =
+    (old new : PagesView) (root : Root) (pairs : List Pair) (kept places : List ℕ) (place : ℕ) (bytes : List ℕ)
+    → IsLaid old root pairs kept places → Contains places place → Replaces old new place bytes
+    → LaidAgain old new root pairs kept places place
 
 -- what a call on the tree leaves, which makes this root of it and takes so many pages at most
 pub record LaidBy (most : ℕ) (old new : PagesView) (now : Root) (pairs : List Pair) (kept places : List ℕ) : Type 0 where
