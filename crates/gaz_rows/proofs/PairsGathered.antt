@@ -1,29 +1,20 @@
 -- A line that comes while keys wait, where no line has its key: its other keys wait too. And what stands once all are put.
-use Rattle.std.proofs.Common.{◌≡◌, ◌≢◌, ◌<◌, ◌+◌, ◌-◌, ◌^◌, ℕ, List, [], ◌∷◌, refl, sym, ◌∙◌, ap, subst, arith, inl, inr, true, false, Bool, Option, Some, None, Ok}
-use Rattle.std.specs.Prelude.{◌⊎◌, Contains, All, IsSome, is_some, IsTrue, if◌then◌else◌}
+use Rattle.std.proofs.Common.{◌≡◌, ◌≢◌, ◌^◌, ℕ, List, [], ◌∷◌, refl, sym, ◌∙◌, ap, subst, inl, inr, true, false, Option, Some, None, Ok}
+use Rattle.std.specs.Prelude.{◌⊎◌, Contains, if◌then◌else◌}
 use Rattle.std.proofs.lemmas.Bool.{cases_eq}
-use Rattle.std.proofs.lemmas.List.Elements.{All-contains, All-from_get_or, Contains-get_or}
-use Rattle.gaz_num.specs.Pieces.{column}
-use Rattle.gaz_num.specs.Check.{reason_against, key_in}
 use Rattle.gaz_num.specs.declared.words.Kind.{Kind}
 use Rattle.gaz_num.specs.declared.words.Table.{Table}
-use Rattle.gaz_num.specs.declared.words.Table.TheVariants.{Codes}
-use Rattle.gaz_page.specs.declared.tree_root.Root.{Root}
-use Rattle.gaz_page.specs.Pages.{PagesView}
-use Rattle.gaz_plain.specs.Gazetteer.{Gazetteer, table_of, is_delete, is_one_line, line_with, after_line}
-use Rattle.gaz_heap.specs.Place.{record_at}
+use Rattle.gaz_plain.specs.Gazetteer.{Gazetteer, table_of, is_delete, after_line}
 use Rattle.gaz_leaf.specs.Node.{Pair, key_of}
 use Rattle.gaz_tree.specs.Pairs.{Within, lookup, put}
-use Rattle.gaz_tree.proofs.Fans.{head_within}
 use Rattle.gaz_keys.specs.Keys.{IsKey}
 use Rattle.gaz_keys.specs.Parts.{tag_of, has_place}
 use Rattle.gaz_keys.specs.Lines.{more_keys}
-use Rattle.gaz_keys.proofs.Tags.{contained, contained_none, more_placeless}
+use Rattle.gaz_keys.proofs.Tags.{contained, contained_none}
 use Rattle.gaz_rows.specs.Index.{Slots, line_key, IsIndexed}
-use Rattle.gaz_rows.specs.Stands.{StandsForBut, value_in, tag_in, places_in, counts_of}
-use Rattle.gaz_rows.specs.Laid.{IsLaid, AfterOrder, SameRecords, ends_of}
-use Rattle.gaz_rows.specs.Work.{put_zeros, missing_in}
-use Rattle.gaz_rows.specs.Steps.{SameSlots, IsSlotOf, MeetsLine, RecordsLeft, SameMembers, LineKeysFit, line_put, old_by, other_places, place_by, but_old, pairs_with, pairs_after, pair_at, counted, recounted, one_if}
+use Rattle.gaz_rows.specs.Stands.{value_in, tag_in, places_in}
+use Rattle.gaz_rows.specs.Work.{put_zeros}
+use Rattle.gaz_rows.specs.Steps.{MeetsLine, RecordsLeft, SameMembers, line_put, old_by, other_places, place_by, but_old, pairs_with, pairs_after, pair_at, ArePlaceless, AreGathered}
 use Rattle.gaz_rows.proofs.Members.{head_is_in, tail_is_in}
 use Rattle.gaz_rows.proofs.Keyed.{some_inj}
 use Rattle.gaz_rows.proofs.Settled.{put_there, put_elsewhere}
@@ -32,15 +23,9 @@ use Rattle.gaz_rows.proofs.ReindexedLines.{none_is_some, false_is_true}
 use Rattle.gaz_rows.proofs.ReindexedKeys.{lines_fit}
 use Rattle.gaz_rows.proofs.Pairs.{AllKeys, numbers_differ, zeros_there, zeros_elsewhere, missing_all}
 use Rattle.gaz_rows.proofs.PairsStepped.{place_tag}
-use Rattle.gaz_rows.proofs.PairsPlaces.{IsAt, place_at, at_place, tag_key, rising_put, rising_zeros}
-use Rattle.gaz_rows.proofs.PairsIndexed.{next_gazetteer, next_counts, next_replaced, place_is, stepped_is_indexed}
-use Rattle.gaz_rows.proofs.PairsWaiting.{ArePlaceless, SameKeys, same_index, waits, waits_not, place_waits_not, places_zeros}
-
--- These keys wait: those that waited, and these.
-pub record AreGathered (waiting more now : List (List ℕ)) : Type 0 where
-  pub to : (key : List ℕ) → Contains now key → Contains waiting key ⊎ Contains more key
-  pub from : (key : List ℕ) → Contains waiting key → Contains now key
-  pub come : (key : List ℕ) → Contains more key → Contains now key
+use Rattle.gaz_rows.proofs.PairsPlaces.{IsAt, place_at, at_place, tag_key, rising_put}
+use Rattle.gaz_rows.proofs.PairsIndexed.{next_gazetteer, next_replaced, place_is, stepped_is_indexed}
+use Rattle.gaz_rows.proofs.PairsWaiting.{same_index, waits, waits_not, place_waits_not, places_zeros}
 
 module _ (slots now : Slots) (gaz : Gazetteer) (k : Kind) (line key : List ℕ) (waiting waits_now : List (List ℕ)) (pairs : List Pair) (bytes : ℕ → Option (List ℕ))
     (all : AllKeys waiting) (placeless : ArePlaceless waiting) (rising : Within 0 (2 ^ 256) pairs) (meets : MeetsLine slots now gaz k line key (put_zeros waiting pairs) bytes)
@@ -100,13 +85,16 @@ module _ (slots now : Slots) (gaz : Gazetteer) (k : Kind) (line key : List ℕ) 
     where
       elsewhere : asked ≢ Key → (ps : List Pair) → lookup (key_of asked) (put (pair_at Key place) ps) ≡ lookup (key_of asked) ps
       elsewhere differs ps = put_elsewhere (key_of asked) (pair_at Key place) ps (numbers_differ Key asked key_fits fits (λ is. differs (sym is)))
+
       there : asked ≡ Key → (ps : List Pair) → lookup (key_of asked) (put (pair_at Key place) ps) ≡ Some place
       there is ps = ap (λ a. lookup (key_of a) (put (pair_at Key place) ps)) is ∙ put_there (pair_at Key place) ps
+
       no_wait : (Contains more asked → ⊥) → (Contains waiting asked → ⊥) → Contains waits_now asked → ⊥
       no_wait not_more lacks has = elim (gathered.to asked has) [
         | inl earlier ↦ lacks earlier
         | inr come ↦ not_more come
       ]
+
       by_key : (Contains waiting asked → ⊥) → (Contains (Key ∷ []) asked) ⊎ (Contains (Key ∷ []) asked → ⊥) → lookup (key_of asked) (put (pair_at Key place) pairs) ≡ lookup (key_of asked) (put (pair_at Key place) settled)
       by_key lacks (inl has) = elim (contained Key [] asked has) [
         | inl is ↦ there (sym is) pairs ∙ sym (there (sym is) settled)
@@ -115,6 +103,7 @@ module _ (slots now : Slots) (gaz : Gazetteer) (k : Kind) (line key : List ℕ) 
       by_key lacks (inr other) =
           let differs : asked ≢ Key = λ is. other (subst (Contains (Key ∷ [])) (sym is) (head_is_in Key [])) in
           elsewhere differs pairs ∙ sym (zeros_elsewhere waiting asked pairs all fits lacks) ∙ sym (elsewhere differs settled)
+
       by_waiting : (Contains more asked → ⊥) → Contains waiting asked ⊎ (Contains waiting asked → ⊥) → value_in waits_now (put (pair_at Key place) pairs) asked ≡ lookup (key_of asked) (put (pair_at Key place) settled)
       by_waiting not_more (inl has) =
           waits waits_now (put (pair_at Key place) pairs) asked (gathered.from asked has)
@@ -137,18 +126,21 @@ module _ (slots now : Slots) (gaz : Gazetteer) (k : Kind) (line key : List ℕ) 
     where
       number : ℕ
       number = key_of Key
+
       tag : has_place (tag_in (key_of Key)) ≡ true
       tag = ap has_place (tag_key Key key_fits) ∙ key_tag
+
       to : (p : ℕ) → Contains (places_in (put (pair_at Key place) pairs)) p → Contains (place ∷ places_in pairs) p
       to p has = by (place_at 0 (put (pair_at Key place) pairs) p (rising_put Key place pairs key_fits rising) has)
         where
           by : IsAt (put (pair_at Key place) pairs) p → Contains (place ∷ places_in pairs) p
           by found = elim (cases_eq (key_of Key) found.key) [
             | inl is ↦
-              let same : Some place ≡ Some p = sym (put_there (pair_at Key place) pairs) ∙ ap (λ n. lookup n (put (pair_at Key place) pairs)) is ∙ found.at in
-              subst (Contains (place ∷ places_in pairs)) (some_inj place p same) (head_is_in place (places_in pairs))
+                let same : Some place ≡ Some p = sym (put_there (pair_at Key place) pairs) ∙ ap (λ n. lookup n (put (pair_at Key place) pairs)) is ∙ found.at in
+                subst (Contains (place ∷ places_in pairs)) (some_inj place p same) (head_is_in place (places_in pairs))
             | inr differs ↦ tail_is_in place (places_in pairs) p (at_place found.key p pairs found.tag (sym (put_elsewhere found.key (pair_at Key place) pairs differs) ∙ found.at))
           ]
+
       from : (p : ℕ) → Contains (place ∷ places_in pairs) p → Contains (places_in (put (pair_at Key place) pairs)) p
       from p has = elim (contained place (places_in pairs) p has) [
         | inl is ↦ at_place (key_of Key) p (put (pair_at Key place) pairs) tag (put_there (pair_at Key place) pairs ∙ ap Some is)

@@ -119,11 +119,15 @@ module _ (slots now : Slots) (gaz : Gazetteer) (k : Kind) (line key : List ℕ) 
   key_fits true deletes = delete_fits now k line deletes
   key_fits false puts = keys_fit table (now (column 1 line)) line Key (puts_keyed k line puts meets.accepted (ap is_some meets.keyed)) (head_is_in Key (more_keys table line))
 
+  -- The key with a place, of a line that is put or only takes out, has 32 bytes.
+  pub step_key : IsKey Key
+  step_key = key_fits (is_delete k) refl
+
   -- where no line has the key, the tree has none of its place
   none_at : old ≡ None → (found : Option ℕ) → lookup (key_of Key) pairs ≡ found → found ≡ None
   none_at none None is = refl
   none_at none (Some place) is =
-      let of : IsThatOf now gaz table Key = that_of now gaz table Key (tag_at table (now (column 1 line)) line) (held.only Key (key_fits (is_delete k) refl) (ap is_some is)) in
+      let of : IsThatOf now gaz table Key = that_of now gaz table Key (tag_at table (now (column 1 line)) line) (held.only Key step_key (ap is_some is)) in
       absurd (none_is_some of.line (sym none ∙ told_key (is_delete k) refl of.line of.there of.is))
 
   -- Where the old line stands is what the tree has at the key with the place.

@@ -1,6 +1,6 @@
 -- Pages that stand for a gazetteer but for keys that wait: once these are put, and after a line whose other keys wait too.
-use Rattle.std.proofs.Common.{◌≡◌, ◌<◌, ◌+◌, ◌-◌, ◌^◌, ℕ, List, [], ◌∷◌, get_or, refl, sym, ◌∙◌, ap, subst, arith, true, false, Bool, Option, Some, None, Ok}
-use Rattle.std.specs.Prelude.{Contains, All, IsSome, is_some, IsTrue, if◌then◌else◌}
+use Rattle.std.proofs.Common.{◌≡◌, ◌+◌, ◌-◌, ◌^◌, ℕ, List, [], ◌∷◌, get_or, sym, ◌∙◌, ap, subst, arith, false, Some, None, Ok}
+use Rattle.std.specs.Prelude.{is_some, IsTrue, option_and_then}
 use Rattle.std.proofs.lemmas.List.Elements.{All-contains, Contains-get_or}
 use Rattle.gaz_num.specs.Pieces.{column}
 use Rattle.gaz_num.specs.Check.{reason_against, key_in}
@@ -10,21 +10,22 @@ use Rattle.gaz_page.specs.declared.tree_root.Root.{Root}
 use Rattle.gaz_page.specs.Pages.{PagesView}
 use Rattle.gaz_plain.specs.Gazetteer.{Gazetteer, table_of, is_delete, is_one_line, after_line}
 use Rattle.gaz_heap.specs.Place.{record_at}
-use Rattle.gaz_leaf.specs.Node.{Pair}
-use Rattle.gaz_tree.specs.Pairs.{Within, put}
+use Rattle.gaz_leaf.specs.Node.{key_of}
+use Rattle.gaz_tree.specs.Pairs.{Within, put, lookup}
 use Rattle.gaz_tree.proofs.Fans.{head_within}
 use Rattle.gaz_keys.specs.Parts.{tag_of, has_place}
 use Rattle.gaz_keys.specs.Lines.{more_keys}
 use Rattle.gaz_rows.specs.Index.{Slots, line_key}
-use Rattle.gaz_rows.specs.Stands.{StandsForBut, places_in, counts_of, AreUsedOnce}
+use Rattle.gaz_rows.specs.Stands.{StandsForBut, places_in, AreUsedOnce}
 use Rattle.gaz_rows.specs.Laid.{IsLaid, AfterOrder, SameRecords, ends_of}
 use Rattle.gaz_rows.specs.Work.{put_zeros}
-use Rattle.gaz_rows.specs.Steps.{SameSlots, IsSlotOf, MeetsLine, RecordsLeft, line_put, old_by, pair_at, counted, recounted, one_if}
-use Rattle.gaz_rows.proofs.Pairs.{AllKeys}
+use Rattle.gaz_rows.specs.Steps.{SameSlots, IsSlotOf, MeetsLine, RecordsLeft, line_put, old_by, pair_at, counted, recounted, one_if, ArePlaceless, SameKeys, AreGathered}
+use Rattle.gaz_rows.proofs.Pairs.{AllKeys, zeros_elsewhere}
 use Rattle.gaz_rows.proofs.PairsPlaces.{rising_zeros}
-use Rattle.gaz_rows.proofs.PairsIndexed.{next_gazetteer, next_counts}
-use Rattle.gaz_rows.proofs.PairsWaiting.{ArePlaceless, SameKeys, as_settled, settled_is_indexed, settled_places}
-use Rattle.gaz_rows.proofs.PairsGathered.{AreGathered, gathered_is_indexed, gathered_places}
+use Rattle.gaz_rows.proofs.PairsIndexed.{next_gazetteer, next_counts, old_is, step_key}
+use Rattle.gaz_rows.proofs.PairsWaiting.{as_settled, settled_is_indexed, settled_places, place_waits_not}
+use Rattle.gaz_rows.proofs.PairsGathered.{gathered_is_indexed, gathered_places}
+use Rattle.gaz_rows.proofs.PairsStepped.{place_tag}
 
 module _ (waiting : List (List ℕ)) (all : AllKeys waiting) (gaz : Gazetteer) (old : PagesView) (root : Root) (stands : StandsForBut waiting gaz old.page (ends_of old root)) where
   placeless : ArePlaceless waiting
@@ -64,6 +65,15 @@ module _ (waiting : List (List ℕ)) (all : AllKeys waiting) (gaz : Gazetteer) (
     same_slots = same;
     slot = slot;
   }
+
+  -- The old line stands at the key with the place while keys wait too.
+  pub old_waiting : (now : Slots) (kind : Kind) (line key : List ℕ) → MeetsLine stands.slots now gaz kind line key (put_zeros waiting stands.pairs) (record_at old.page)
+      → old_by gaz kind key ≡ option_and_then (record_at old.page) (lookup (key_of (line_key now (table_of kind) line)) stands.pairs)
+  old_waiting now kind line key meets =
+      let asked = line_key now (table_of kind) line in
+      old_is stands.slots now gaz kind line key (put_zeros waiting stands.pairs) (record_at old.page) meets
+      ∙ ap (option_and_then (record_at old.page)) (zeros_elsewhere waiting asked stands.pairs all (step_key stands.slots now gaz kind line key (put_zeros waiting stands.pairs) (record_at old.page) meets)
+      (place_waits_not waiting stands.pairs asked placeless (place_tag now (table_of kind) line)))
 
   module _ (now : Slots) (kind : Kind) (line key : List ℕ) (meets : MeetsLine stands.slots now gaz kind line key (put_zeros waiting stands.pairs) (record_at old.page)) (next : Gazetteer) (taken : after_line gaz kind line ≡ Ok next)
       (puts : is_delete kind ≡ false) (none : old_by gaz kind key ≡ None) (waits_now : List (List ℕ)) (gathered : AreGathered waiting (more_keys (table_of kind) line) waits_now) (less : ArePlaceless waits_now) where
