@@ -30,14 +30,15 @@ use Rattle.gaz_keys.proofs.Fit.{id_small}
 use Rattle.gaz_rows.proofs.KeysFor.{row_key_alone, alternate_key_alone}
 use Rattle.gaz_rows.proofs.Reindexed.{by_line, reindexed, reslotted}
 use Rattle.gaz_rows.proofs.ReindexedLines.{find_has, found_itself, step_replaces, is_taken, IsTaken, stays_gazetteer, none_is_some}
-use Rattle.gaz_rows.proofs.Reindexed.{is_placed}
+use Rattle.gaz_rows.proofs.Reindexed.{is_placed, more_of_line}
 use Rattle.gaz_rows.proofs.Got.{has_key}
 use Rattle.gaz_rows.proofs.ReindexedKeys.{lines_fit, lines_tell, same_line_keys, key_told}
 use Rattle.gaz_rows.proofs.ReindexedSlots.{slots_next}
 use Rattle.gaz_rows.proofs.ReindexedTaken.{step_recounts}
-use Rattle.gaz_rows.proofs.Pairs.{AllKeys, missing_all}
-use Rattle.gaz_rows.proofs.PairsStepped.{keys_stepped}
+use Rattle.gaz_rows.proofs.Pairs.{AllKeys, missing_all, rising_without_all, all_out_elsewhere, missing_had}
+use Rattle.gaz_rows.proofs.PairsStepped.{keys_stepped, more_differ}
 use Rattle.gaz_rows.proofs.PairsPlaces.{records_stepped, places_stepped, rising_after}
+use Rattle.gaz_tree.proofs.Lists.{put-there}
 
 -- ---- a line that only takes out
 
@@ -119,11 +120,15 @@ module _ (slots now : Slots) (gaz : Gazetteer) (k : Kind) (line key : List ℕ) 
   key_fits true deletes = delete_fits now k line deletes
   key_fits false puts = keys_fit table (now (column 1 line)) line Key (puts_keyed k line puts meets.accepted (ap is_some meets.keyed)) (head_is_in Key (more_keys table line))
 
+  -- The key with a place, of a line that is put or only takes out, has 32 bytes.
+  pub step_key : IsKey Key
+  step_key = key_fits (is_delete k) refl
+
   -- where no line has the key, the tree has none of its place
   none_at : old ≡ None → (found : Option ℕ) → lookup (key_of Key) pairs ≡ found → found ≡ None
   none_at none None is = refl
   none_at none (Some place) is =
-      let of : IsThatOf now gaz table Key = that_of now gaz table Key (tag_at table (now (column 1 line)) line) (held.only Key (key_fits (is_delete k) refl) (ap is_some is)) in
+      let of : IsThatOf now gaz table Key = that_of now gaz table Key (tag_at table (now (column 1 line)) line) (held.only Key step_key (ap is_some is)) in
       absurd (none_is_some of.line (sym none ∙ told_key (is_delete k) refl of.line of.there of.is))
 
   -- Where the old line stands is what the tree has at the key with the place.
@@ -162,6 +167,22 @@ module _ (slots now : Slots) (gaz : Gazetteer) (k : Kind) (line key : List ℕ) 
   pub put_pairs : (place : ℕ) → is_delete k ≡ false
       → pairs_with now gaz k line key place pairs ≡ put_zeros (missing_in (more_by table old) (more_keys table line)) (put (pair_at Key place) (without_all (missing_in (more_keys table line) (more_by table old)) pairs))
   put_pairs place puts = ap (λ one. pairs_after now table old one place pairs) (ap (λ b. if b then None else Some line) puts)
+
+  -- where it is put at the place of the old one the tree has that already
+  pub put_stays : (place : ℕ) → lookup (key_of Key) pairs ≡ Some place
+      → put (pair_at Key place) (without_all (missing_in (more_keys table line) (more_by table old)) pairs) ≡ without_all (missing_in (more_keys table line) (more_by table old)) pairs
+  put_stays place at =
+      put-there (pair_at Key place) 0 (2 ^ 256) (without_all out pairs) (rising_without_all out 0 (2 ^ 256) pairs meets.rising)
+      (all_out_elsewhere out Key pairs all_out step_key (λ has. more_differ now table old line Key (missing_had (more_keys table line) (more_by table old) Key has).0 refl) ∙ at)
+    where
+      out : List (List ℕ)
+      out = missing_in (more_keys table line) (more_by table old)
+
+      all_out : AllKeys (missing_in (more_keys table line) (more_by table old))
+      all_out asked has =
+          let among = more_of_line now table old asked (missing_had (more_keys table line) (more_by table old) asked has).0 in
+          let of = by_line now table old asked among in
+          fit table of.0 asked (was_there of.0 of.1) of.2
 
   -- where the old line is only taken out
   pub deleted_pairs : (was : List ℕ) (place : ℕ) → is_delete k ≡ true → old ≡ Some was → pairs_with now gaz k line key place pairs ≡ without_all (missing_in [] (more_keys table was)) (without (key_of Key) pairs)

@@ -115,10 +115,10 @@ spot_from slots table pairs (Some line) one is = (line, refl, is)
 
 -- ---- keys rise still
 
-rising_put : (key : List ℕ) (value : ℕ) (pairs : List Pair) → IsKey key → Within 0 (2 ^ 256) pairs → Within 0 (2 ^ 256) (put (pair_at key value) pairs)
+pub rising_put : (key : List ℕ) (value : ℕ) (pairs : List Pair) → IsKey key → Within 0 (2 ^ 256) pairs → Within 0 (2 ^ 256) (put (pair_at key value) pairs)
 rising_put key value pairs is rising = Within-put 0 (2 ^ 256) (pair_at key value) pairs (omega arith) (key_small key is) rising
 
-rising_zeros : (keys : List (List ℕ)) (pairs : List Pair) → AllKeys keys → Within 0 (2 ^ 256) pairs → Within 0 (2 ^ 256) (put_zeros keys pairs)
+pub rising_zeros : (keys : List (List ℕ)) (pairs : List Pair) → AllKeys keys → Within 0 (2 ^ 256) pairs → Within 0 (2 ^ 256) (put_zeros keys pairs)
 rising_zeros [] pairs all rising = rising
 rising_zeros (key ∷ keys) pairs all rising = rising_zeros keys (put (pair_at key 0) pairs) (behind_keys key keys all) (rising_put key 0 pairs (first_key key keys all) rising)
 

@@ -1,33 +1,26 @@
 -- Keys that wait: the pairs once they are put, and a line that comes while they wait.
-use Rattle.std.proofs.Common.{◌≡◌, ◌≢◌, ◌<◌, ◌^◌, ℕ, List, [], ◌∷◌, refl, sym, ◌∙◌, ap, subst, inl, inr, true, false, Bool, Option, Some, None, Ok}
-use Rattle.std.specs.Prelude.{◌⊎◌, Contains, All, IsSome, is_some, bytes_eq, map, filter, ◌==◌, nat_lt, if◌then◌else◌, option_and_then}
+use Rattle.std.proofs.Common.{◌≡◌, ℕ, List, [], ◌∷◌, refl, sym, ◌∙◌, ap, inl, inr, true, false, Bool, Option, Some}
+use Rattle.std.specs.Prelude.{Contains, is_some, bytes_eq, ◌==◌, nat_lt, if◌then◌else◌, option_and_then}
 use Rattle.std.specs.List.{list_any}
 use Rattle.std.proofs.lemmas.Bool.{eqb-true}
-use Rattle.std.proofs.lemmas.List.Elements.{All-contains}
-use Rattle.gaz_num.specs.declared.words.Kind.{Kind}
 use Rattle.gaz_num.specs.declared.words.Table.{Table}
-use Rattle.gaz_plain.specs.Gazetteer.{Gazetteer, IsGazetteer, table_of, is_delete, lines_in, line_with, after_line}
+use Rattle.gaz_plain.specs.Gazetteer.{Gazetteer, IsGazetteer, lines_in}
 use Rattle.gaz_leaf.specs.Node.{Pair, key_of}
-use Rattle.gaz_tree.specs.Pairs.{Within, lookup, put}
+use Rattle.gaz_tree.specs.Pairs.{lookup, put}
 use Rattle.gaz_keys.specs.Keys.{IsKey}
 use Rattle.gaz_keys.specs.Parts.{tag_of, has_place}
 use Rattle.gaz_keys.specs.Lines.{more_keys}
 use Rattle.gaz_rows.specs.Index.{Slots, line_key, IsIndexed}
 use Rattle.gaz_rows.specs.Stands.{value_in, tag_in, places_in}
 use Rattle.gaz_rows.specs.Work.{put_zeros}
-use Rattle.gaz_rows.specs.Steps.{LineKeysFit, pair_at}
+use Rattle.gaz_rows.specs.Steps.{LineKeysFit, pair_at, ArePlaceless, SameKeys}
 use Rattle.gaz_rows.proofs.Members.{head_is_in, tail_is_in}
-use Rattle.gaz_rows.proofs.Settled.{put_there, put_elsewhere}
 use Rattle.gaz_rows.proofs.Reindexed.{is_in, is_placed}
 use Rattle.gaz_rows.proofs.ReindexedLines.{false_is_true}
 use Rattle.gaz_rows.proofs.ReindexedKeys.{lines_fit}
-use Rattle.gaz_rows.proofs.Pairs.{AllKeys, behind_keys, first_key, numbers_differ, zeros_there, zeros_elsewhere, any_in, in_any}
+use Rattle.gaz_rows.proofs.Pairs.{AllKeys, behind_keys, first_key, zeros_there, zeros_elsewhere, any_in, in_any}
 use Rattle.gaz_rows.proofs.PairsStepped.{place_tag}
 use Rattle.gaz_rows.proofs.PairsPlaces.{at_place, tag_key}
-
--- No key of a list has a place.
-abbrev pub ArePlaceless : List (List ℕ) → Type 0
-ArePlaceless keys = (key : List ℕ) → Contains keys key → has_place (tag_of key) ≡ false
 
 -- ---- keys without a place leave the places
 
@@ -87,11 +80,6 @@ module _ (waiting : List (List ℕ)) (pairs : List Pair) (key : List ℕ) where
   -- a key with a place doesn't wait
   pub place_waits_not : ArePlaceless waiting → has_place (tag_of key) ≡ true → Contains waiting key → ⊥
   place_waits_not placeless has waits = false_is_true (sym (placeless key waits) ∙ has)
-
--- Lists of keys have the same members.
-pub record SameKeys (one other : List (List ℕ)) : Type 0 where
-  pub to : (key : List ℕ) → Contains one key → Contains other key
-  pub from : (key : List ℕ) → Contains other key → Contains one key
 
 module _ (waiting keys : List (List ℕ)) (pairs : List Pair) (all : AllKeys keys) (same : SameKeys waiting keys) where
   -- what is found once they are put, in whatever order

@@ -1,5 +1,5 @@
 -- What a step does to the index: to the values of keys and the bytes at places, and to the pairs of the tree.
-use Rattle.std.specs.Prelude.{◌≡◌, ◌≢◌, ◌<◌, ◌⊎◌, ◌+◌, ◌-◌, ◌^◌, ℕ, List, [], ◌∷◌, Option, Some, None, IsSome, is_some, IsTrue, bytes_eq, if◌then◌else◌, option_and_then, Contains}
+use Rattle.std.specs.Prelude.{◌≡◌, ◌≢◌, ◌<◌, ◌⊎◌, ◌+◌, ◌-◌, ◌^◌, ℕ, List, [], ◌∷◌, Option, Some, None, IsSome, is_some, IsTrue, false, bytes_eq, if◌then◌else◌, option_and_then, Contains}
 use Rattle.gaz_num.specs.declared.words.Kind.{Kind}
 use Rattle.gaz_num.specs.declared.words.Table.{Table}
 use Rattle.gaz_num.specs.declared.words.Table.TheVariants.{Rows, Alternates, Links, Countries, Codes}
@@ -19,6 +19,7 @@ use Rattle.gaz_rows.specs.Index.{Slots, line_key, line_keys, IsIndexed}
 use Rattle.gaz_rows.specs.Stands.{value_in, places_in}
 use Rattle.gaz_rows.specs.Laid.{IsLaid, all_but}
 use Rattle.gaz_rows.specs.Work.{put_zeros, without_all, missing_in}
+use Rattle.gaz_keys.specs.Parts.{tag_of, has_place}
 
 -- the line that a line of a kind puts, and none where it only takes out
 abbrev pub line_put : Kind → List ℕ → Option (List ℕ)
@@ -181,3 +182,18 @@ pub record IsLeft (old new : PagesView) (root now : Root) (slots : Slots) (gaz :
   pub counts : now.counts ≡ recounted root.counts (table_of kind) (counted root.counts (table_of kind) + one_if (line_put kind line) - one_if (old_by gaz kind key))
   pub laid : IsLaid new now (pairs_with slots gaz kind line key place pairs) (now.heap ∷ []) (with_new (line_put kind line) place (other_places slots gaz kind key pairs))
   pub records : RecordsLeft (line_put kind line) place (other_places slots gaz kind key pairs) (record_at old.page) (record_at new.page)
+
+-- No key of a list has a place.
+abbrev pub ArePlaceless : List (List ℕ) → Type 0
+ArePlaceless keys = (key : List ℕ) → Contains keys key → has_place (tag_of key) ≡ false
+
+-- Lists of keys have the same members.
+pub record SameKeys (one other : List (List ℕ)) : Type 0 where
+  pub to : (key : List ℕ) → Contains one key → Contains other key
+  pub from : (key : List ℕ) → Contains other key → Contains one key
+
+-- These keys wait: those that waited, and these.
+pub record AreGathered (waiting more now : List (List ℕ)) : Type 0 where
+  pub to : (key : List ℕ) → Contains now key → Contains waiting key ⊎ Contains more key
+  pub from : (key : List ℕ) → Contains waiting key → Contains now key
+  pub come : (key : List ℕ) → Contains more key → Contains now key
