@@ -38,6 +38,7 @@ fn trial(rt: &HostRuntime) -> Result<(), Stopped> {
     records::lengths(rt, rt.alloc())?;
     records::holes(rt, rt.alloc())?;
     replaced::to_the_byte(rt, rt.alloc())?;
+    replaced::long_ones(rt, rt.alloc())?;
     replaced::beside_a_map(rt, rt.alloc())?;
     failing::each_call(rt, rt.alloc())?;
     damage::pages(rt, rt.alloc())?;

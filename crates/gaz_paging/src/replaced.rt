@@ -62,6 +62,27 @@ pub fn to_the_byte(rt: &impl Print, alloc: Global) -> Result<(), Stopped> {
     printed(println!(rt; "two records in a page: room in place of one of them to the byte"))
 }
 
+/// No record of 4,077 bytes is put in place of one in a slot, and none in place of one in a chain.
+pub fn long_ones(rt: &impl Print, alloc: Global) -> Result<(), Stopped> {
+    let mut pages = MemPages::new(Vec::new(alloc));
+    let mut current = 0;
+    let mut wanted = buffer(alloc)?;
+    let mut buf = buffer(alloc)?;
+    let short = put_made(&mut pages, &mut current, 1, 4076, &mut buf)?;
+    let long = put_made(&mut pages, &mut current, 2, 5000, &mut buf)?;
+    let calls = pages.calls();
+    let in_slot = replace_made(&mut pages, short, 3, 4077, &mut buf)?;
+    check(!in_slot, "a long record in place of a short one")?;
+    let in_chain = replace_made(&mut pages, long, 4, 10, &mut buf)?;
+    check(!in_chain, "a short record in place of a long one")?;
+    check(pages.calls() == calls, "a call of the pages")?;
+    let first = is_there(&mut pages, short, 1, 4076, &mut wanted, &mut buf)?;
+    check(first, "the short record")?;
+    let second = is_there(&mut pages, long, 2, 5000, &mut wanted, &mut buf)?;
+    check(second, "the long record")?;
+    printed(println!(rt; "long for short, and short for long: each place keeps its record"))
+}
+
 /// Puts records of many lengths at random in place of others, beside a map from each place to the seed and the length of its record.
 pub fn beside_a_map(rt: &impl Print, alloc: Global) -> Result<(), Stopped> {
     let mut pages = MemPages::new(Vec::new(alloc));
