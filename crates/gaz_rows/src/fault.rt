@@ -42,3 +42,33 @@ pub enum StepFault {
     /// There is no memory for it.
     Memory,
 }
+
+impl From<PageFault> for StepFault {
+    ghost use Rattle.std.specs.Prelude.{◌≡◌};
+    ghost use Rattle.gaz_rows.specs.Faults.{step_fault_of};
+
+    ghost from_gives = { λ cause fault. fault ≡ step_fault_of cause };
+
+    fn from(cause: PageFault) -> StepFault {
+        match cause {
+            PageFault::Failed => StepFault::Failed,
+            PageFault::Damaged(page) => StepFault::Damaged(page),
+            PageFault::Memory => StepFault::Memory,
+        }
+    }
+}
+
+impl From<AskFault> for StepFault {
+    ghost use Rattle.std.specs.Prelude.{◌≡◌};
+    ghost use Rattle.gaz_rows.specs.Faults.{step_fault_by};
+
+    ghost from_gives = { λ cause fault. fault ≡ step_fault_by cause };
+
+    fn from(cause: AskFault) -> StepFault {
+        match cause {
+            AskFault::Failed => StepFault::Failed,
+            AskFault::Damaged(page) => StepFault::Damaged(page),
+            AskFault::Memory => StepFault::Memory,
+        }
+    }
+}

@@ -1,11 +1,12 @@
 //! Which line of its table a line speaks of.
-ghost use Rattle.std.specs.Prelude.{◌≡◌, None, Some, MatchResult};
+ghost use Rattle.std.specs.Prelude.{◌≡◌, None, Some, MatchResult, IsTrue};
 ghost use Rattle.gaz_num.specs.Check.{reason_against};
+ghost use Rattle.gaz_keys.specs.Lines.{IsKeyed, kind_of};
 ghost use Rattle.gaz_rows.specs.Target.{IsTargetOf};
 
 use gaz_alt::{check_alt, check_delete};
 use gaz_keys::{alternate_key, country_key_of, link_key, place_key};
-use gaz_num::{Kind, Reason};
+use gaz_num::{Kind, Reason, Table};
 use gaz_row::check_row;
 use gaz_tables::{check_code, check_country, check_link};
 
@@ -54,5 +55,30 @@ pub(crate) fn target_of(kind: Kind, line: &[u8]) -> Result<Option<Target<'_>>, R
             Ok(code) => Ok(Some(Target::Code(code))),
             Err(reason) => Err(reason),
         },
+    }
+}
+
+/// The kind of the lines of a table.
+fn kind_in(table: Table) -> Kind
+    ensures { result ≡ kind_of table }
+{
+    match table {
+        Table::Rows => Kind::Row,
+        Table::Alternates => Kind::Alt,
+        Table::Links => Kind::Link,
+        Table::Countries => Kind::Country,
+        Table::Codes => Kind::Code,
+    }
+}
+
+/// Whether the check of a table accepts a line, and the line has a key there.
+pub(crate) fn is_keyed(table: Table, line: &[u8]) -> bool
+    ensures yes { IsTrue result → IsKeyed table line.now }
+    ensures not { IsKeyed table line.now → IsTrue result }
+{
+    match target_of(kind_in(table), line) {
+        Ok(Some(_)) => true,
+        Ok(None) => false,
+        Err(_) => false,
     }
 }
