@@ -1,6 +1,6 @@
 -- Lines that share a key stand in one table and have one key there.
 use Rattle.std.proofs.Common.{◌≡◌, ◌<◌, ◌≤◌, ℕ, zero, suc, ◌^◌, ◌+◌, ◌-◌, true, false, List, [], ◌∷◌, ◌++◌, length, take, drop, replicate, refl, subst, sym, ◌∙◌, ap, arith, Option, Some, None, length-append}
-use Rattle.std.specs.Prelude.{Contains, IsSome, unwrap_or, option_map, slice_index, if◌then◌else◌, ◌==◌, ◌&&◌, ◌||◌, nat_le}
+use Rattle.std.specs.Prelude.{Contains, IsSome, unwrap_or, option_map, slice_index, if◌then◌else◌, ◌==◌, ◌&&◌, nat_le}
 use Rattle.std.specs.Int.{w32, to_be_bytes, from_be_bytes}
 use Rattle.std.specs.List.{list_all}
 use Rattle.std.proofs.lemmas.Bool.{leb-true}
@@ -22,7 +22,7 @@ use Rattle.gaz_keys.specs.Keys.{four, place_key, alternate_key, link_key, revers
 use Rattle.gaz_keys.specs.Parts.{tag_of, four_at, id_of, alternate_of, first_of, slot_of, source_of}
 use Rattle.gaz_keys.specs.Lines.{key_at, more_keys, keys_of, id_at, name_at, path_to, division_keys, division_level, lying_key, divided_key, IsKeyed}
 use Rattle.gaz_keys.specs.Laws.{AreAlike, KeysTellTheirLine}
-use Rattle.gaz_keys.proofs.Tags.{in_more_keys, contained_none, one_of}
+use Rattle.gaz_keys.proofs.Tags.{table_for, in_more_keys, contained_none, one_of}
 use Rattle.gaz_keys.proofs.Made.{take_front}
 use Rattle.gaz_keys.proofs.Fit.{first_size, id_small, no_comment}
 
@@ -35,13 +35,7 @@ byte_past size n first rest is = ap (λ k. slice_index (first ++ rest) (k + n)) 
 
 -- The table of a key, by its tag and, of a name, by whose name it is.
 abbrev table_by : ℕ → ℕ → Table
-table_by tag source =
-    if tag == 2 then Alternates
-    else if tag == 3 || tag == 4 then Links
-    else if tag == 5 then Countries
-    else if tag == 6 then Codes
-    else if tag == 7 && source == 2 then Alternates
-    else Rows
+table_by tag source = if tag == 7 && source == 2 then Alternates else table_for tag
 
 abbrev table_in : List ℕ → Table
 table_in key = table_by (tag_of key) (source_of key)

@@ -1,6 +1,6 @@
 -- The tags of the keys of a line.
-use Rattle.std.proofs.Common.{◌≡◌, ◌<◌, ℕ, zero, suc, true, false, List, [], ◌∷◌, ◌++◌, length, refl, subst, arith, inl, inr, Option, Some, None}
-use Rattle.std.specs.Prelude.{◌⊎◌, Contains, slice_index_or}
+use Rattle.std.proofs.Common.{◌≡◌, ◌<◌, ℕ, zero, suc, true, false, List, [], ◌∷◌, ◌++◌, length, refl, sym, ◌∙◌, ap, subst, arith, inl, inr, Option, Some, None}
+use Rattle.std.specs.Prelude.{◌⊎◌, Contains, slice_index_or, ◌==◌, ◌||◌, if◌then◌else◌}
 use Rattle.gaz_num.specs.declared.words.Table.{Table}
 use Rattle.gaz_num.specs.declared.words.Table.TheVariants.{Rows, Alternates, Links, Countries, Codes}
 use Rattle.gaz_keys.specs.Keys.{place_key, alternate_key, link_key, reverse_key, country_key, code_key, text_key, box_key, division_key, path_key}
@@ -42,33 +42,20 @@ tag_has_place Links = refl
 tag_has_place Countries = refl
 tag_has_place Codes = refl
 
+-- the table of such a key, by its tag
+abbrev pub table_for : ℕ → Table
+table_for tag = if tag == 2 then Alternates else if tag == 3 || tag == 4 then Links else if tag == 5 then Countries else if tag == 6 then Codes else Rows
+
+table_back : (table : Table) → table_for (tag_for table) ≡ table
+table_back Rows = refl
+table_back Alternates = refl
+table_back Links = refl
+table_back Countries = refl
+table_back Codes = refl
+
 -- tables have different tags
 pub tags_differ : (a b : Table) → tag_for a ≡ tag_for b → a ≡ b
-tags_differ Rows Rows is = refl
-tags_differ Rows Alternates is = absurd (omega (arith, is))
-tags_differ Rows Links is = absurd (omega (arith, is))
-tags_differ Rows Countries is = absurd (omega (arith, is))
-tags_differ Rows Codes is = absurd (omega (arith, is))
-tags_differ Alternates Rows is = absurd (omega (arith, is))
-tags_differ Alternates Alternates is = refl
-tags_differ Alternates Links is = absurd (omega (arith, is))
-tags_differ Alternates Countries is = absurd (omega (arith, is))
-tags_differ Alternates Codes is = absurd (omega (arith, is))
-tags_differ Links Rows is = absurd (omega (arith, is))
-tags_differ Links Alternates is = absurd (omega (arith, is))
-tags_differ Links Links is = refl
-tags_differ Links Countries is = absurd (omega (arith, is))
-tags_differ Links Codes is = absurd (omega (arith, is))
-tags_differ Countries Rows is = absurd (omega (arith, is))
-tags_differ Countries Alternates is = absurd (omega (arith, is))
-tags_differ Countries Links is = absurd (omega (arith, is))
-tags_differ Countries Countries is = refl
-tags_differ Countries Codes is = absurd (omega (arith, is))
-tags_differ Codes Rows is = absurd (omega (arith, is))
-tags_differ Codes Alternates is = absurd (omega (arith, is))
-tags_differ Codes Links is = absurd (omega (arith, is))
-tags_differ Codes Countries is = absurd (omega (arith, is))
-tags_differ Codes Codes is = refl
+tags_differ a b is = sym (table_back a) ∙ ap table_for is ∙ table_back b
 
 -- The key has no place as its value.
 abbrev pub IsPlaceless : List ℕ → Type 0
