@@ -1,4 +1,4 @@
--- What a look-up by a key finds, of the tree and the records alone.
+-- What a look-up by a key, a scan and a look at the codes of a range find, of the tree and the records alone.
 use Rattle.std.specs.Prelude.{◌≡◌, ◌≤◌, ◌+◌, take, length, map, find, All, unwrap_or, count_by, Bool, true, ℕ, List, [], Option, Some, None, IsSome, IsTrue, Contains, bytes_eq, option_and_then, Result, Ok, Err, if◌then◌else◌}
 use Rattle.gaz_num.specs.Pieces.{column}
 use Rattle.gaz_num.specs.declared.words.Table.{Table}
