@@ -32,7 +32,7 @@ come_fault table root v fault result sound is = subst (ComesRightly table root v
   where
     by : (fault : PageFault) → (IsTrue v.is_told → (pairs : List Pair) (places : List ℕ) → IsLaid v root pairs (root.heap ∷ []) places → HasLeft v pairs → NotDamaged fault) → ComesRightly table root v (step_fault_of fault)
     by page.Failed sound = tt
-    by (page.Damaged n) sound pairs places told laid left = sound told pairs places laid left
+    by (page.Damaged n) sound = λ pairs places told laid left. sound told pairs places laid left
     by page.Memory sound = tt
 
 -- And as that of a line that goes or is replaced.
@@ -44,5 +44,5 @@ change_fault table root v place was fault result sound is = subst (ChangesRightl
     by : (fault : PageFault) → (IsTrue v.is_told → (pairs : List Pair) (places : List ℕ) → IsLaid v root pairs (root.heap ∷ []) places → Contains places place → HasLeft v pairs → NotDamaged fault)
         → ChangesRightly table root v place was (step_fault_of fault)
     by page.Failed sound = tt
-    by (page.Damaged n) sound pairs places told laid left there keyed counts = sound told pairs places laid there left
+    by (page.Damaged n) sound = λ pairs places told laid left there keyed counts. sound told pairs places laid there left
     by page.Memory sound = tt

@@ -19,7 +19,7 @@ use std::alloc::Global;
 
 /// The page of a place.
 fn page_of(place: u64) -> u32 {
-    (place >> 16) as u32
+    u32::try_from(place >> 16).unwrap_or(0)
 }
 
 impl<P: Pages> RowStore<P> {
