@@ -91,6 +91,10 @@ module _ (waiting : List (List ℕ)) (gaz : Gazetteer) (v : PagesView) (root : R
   pub tree_not_full : length stands.pairs < 2 ^ 30
   tree_not_full = omega (arith, pairs_few waiting stands.slots gaz stands.pairs (record_at v.page) stands.indexed rising stands.is_gazetteer)
 
+  -- and that a step has some to spare
+  pub pairs_left : length stands.pairs + 10 ≤ 2 ^ 30
+  pairs_left = omega (arith, pairs_few waiting stands.slots gaz stands.pairs (record_at v.page) stands.indexed rising stands.is_gazetteer)
+
   pub enough : HasRoom 200 v
   enough chain =
       omega (

@@ -4,7 +4,9 @@ use Rattle.gaz_num.specs.declared.words.Kind.{Kind}
 use Rattle.gaz_num.specs.declared.words.Reason.{Reason}
 use Rattle.gaz_num.specs.declared.words.Table.{Table}
 use Rattle.gaz_num.specs.Counts.{RisesOnce}
-use Rattle.gaz_plain.specs.Gazetteer.{Gazetteer, after_line, limit_of}
+use Rattle.gaz_num.specs.declared.words.Table.TheVariants.{Codes}
+use Rattle.gaz_num.specs.Pieces.{column}
+use Rattle.gaz_plain.specs.Gazetteer.{Gazetteer, after_line, limit_of, table_of}
 use Rattle.gaz_page.specs.declared.tree_root.Root.{Root}
 use Rattle.gaz_page.specs.Pages.{PagesView, SamePages}
 use Rattle.gaz_leaf.specs.Node.{Pair, key_of}
@@ -14,7 +16,8 @@ use Rattle.gaz_keys.specs.Lines.{more_keys, IsKeyed}
 use Rattle.gaz_rows.specs.declared.fault.StepFault.{StepFault}
 use Rattle.gaz_rows.specs.declared.fault.StepFault.TheVariants.{Malformed, Full, Failed, Damaged, Memory}
 use Rattle.gaz_rows.specs.Laid.{IsLaid}
-use Rattle.gaz_rows.specs.Steps.{counted, recounted}
+use Rattle.gaz_rows.specs.Index.{Slots, line_key}
+use Rattle.gaz_rows.specs.Steps.{SameSlots, IsSlotOf, counted, recounted}
 use Rattle.gaz_rows.specs.Store.{IsStore, IsStepFaultOf, StepFailsOnce}
 use Rattle.gaz_rows.specs.Change.{HasCome, HasGone, HasReplaced, HasLeft}
 
@@ -76,3 +79,15 @@ ChangesRightly table root v place was (Damaged page) =
     (pairs : List Pair) (places : List ℕ) → IsTrue v.is_told → IsLaid v root pairs (root.heap ∷ []) places → HasLeft v pairs → Contains places place → IsKeyed table was
     → 1 ≤ counted root.counts table → ⊥
 ChangesRightly table root v place was other = Unit
+
+-- A key is found with its place and the record there, in the front of the buffer; or it is in none of the pairs.
+abbrev pub IsFoundAt : List ℕ → PagesView → List Pair → List ℕ → Option (ℕ × ℕ) → Type 0
+IsFoundAt key v pairs buf None = lookup (key_of key) pairs ≡ None
+IsFoundAt key v pairs buf (Some found) = StandsAt v key pairs found.0 (take found.1 buf)
+
+-- The key by which the place of a line's like stands, over pages that stand for a gazetteer: with these slots, of which a new code has a free one.
+pub record IsKeyOver (gaz : Gazetteer) (slots : Slots) (kind : Kind) (line key : List ℕ) : Type 0 where
+  pub now : Slots
+  pub same : SameSlots gaz slots now
+  pub slot : table_of kind ≡ Codes → IsSlotOf now gaz (column 1 line)
+  pub is : line_key now (table_of kind) line ≡ key

@@ -7,7 +7,8 @@ ghost use Rattle.gaz_leaf.specs.Node.{Pair, key_of};
 ghost use Rattle.gaz_tree.specs.Tree.{IsTop};
 ghost use Rattle.gaz_scan.specs.Ranges.{between};
 ghost use Rattle.gaz_scan.specs.Scan.{Comes, tree_of};
-ghost use Rattle.gaz_rows.specs.Found.{Finds, FindsCoded, FailsSoundly, GivesNext, OverPlace, IsLineOf, has_code as is_coded};
+ghost use Rattle.gaz_rows.specs.Found.{Finds, FindsCoded, FailsSoundly, OverRecord, GivesNext, OverPlace, IsLineOf, has_code as is_coded};
+ghost use Rattle.gaz_rows.specs.Stepping.{IsFoundAt};
 
 use crate::fault::AskFault;
 use gaz_heap::get as get_record;
@@ -84,11 +85,15 @@ impl<P: Pages> RowStore<P> {
         }
     }
 
-    /// The line at the place of a key, in the front of the buffer.
-    pub(crate) fn get(&mut self, key: &[u8; 32], buf: &mut [u8]) -> Result<Option<usize>, AskFault>
+    /// The place of a key, and the record there in the front of the buffer with its size; or none where the tree hasn't the key.
+    pub(crate) fn find(
+        &mut self,
+        key: &[u8; 32],
+        buf: &mut [u8],
+    ) -> Result<Option<(u64, usize)>, AskFault>
         requires room { 65535 ≤ length buf.old }
-        ensures line { IfOk result (Finds key.now (P.view self.old.pages) self.old.root buf.new) }
-        ensures fits { IfOk result (λ found. IfSome found (λ size. size ≤ 65535)) }
+        ensures found { IfOk result (λ found. OverRecord key.now (P.view self.old.pages) self.old.root (λ pairs. IsFoundAt key.now (P.view self.old.pages) pairs buf.new found)) }
+        ensures fits { IfOk result (λ found. IfSome found (λ at. at.1 ≤ 65535)) }
         ensures damaged { IfErr result (FailsSoundly key.now (P.view self.old.pages) self.old.root) }
         ensures size { length buf.new ≡ length buf.old }
         ensures asked { HasAsked (self.old.root.height + 17) (P.view self.old.pages) (P.view self.new.pages) result }
@@ -102,7 +107,25 @@ impl<P: Pages> RowStore<P> {
             Err(fault) => return Err(AskFault::from(fault)),
         };
         match self.record(place, buf) {
-            Ok(size) => Ok(Some(size)),
+            Ok(size) => Ok(Some((place, size))),
+            Err(fault) => Err(fault),
+        }
+    }
+
+    /// The line at the place of a key, in the front of the buffer.
+    pub(crate) fn get(&mut self, key: &[u8; 32], buf: &mut [u8]) -> Result<Option<usize>, AskFault>
+        requires room { 65535 ≤ length buf.old }
+        ensures line { IfOk result (Finds key.now (P.view self.old.pages) self.old.root buf.new) }
+        ensures fits { IfOk result (λ found. IfSome found (λ size. size ≤ 65535)) }
+        ensures damaged { IfErr result (FailsSoundly key.now (P.view self.old.pages) self.old.root) }
+        ensures size { length buf.new ≡ length buf.old }
+        ensures asked { HasAsked (self.old.root.height + 17) (P.view self.old.pages) (P.view self.new.pages) result }
+        ensures root { self.new.root ≡ self.old.root }
+        ensures keeps { P.keeps self.old.pages self.new.pages }
+    {
+        match self.find(key, buf) {
+            Ok(Some((_, size))) => Ok(Some(size)),
+            Ok(None) => Ok(None),
             Err(fault) => Err(fault),
         }
     }

@@ -1,8 +1,13 @@
-use Rattle.std.proofs.Common.{Option, ℕ}
-use Rattle.gaz_leaf.specs.Node.{key_of}
-use Rattle.gaz_tree.specs.Pairs.{lookup}
-use Rattle.gaz_rows.proofs.Asked.{got_sound}
+use Rattle.std.proofs.Common.{ap, ◌∙◌}
+use Rattle.std.specs.Prelude.{option_and_then}
+use Rattle.gaz_heap.specs.Place.{record_at}
 use Rattle.gaz_rows.proofs.store.RowStore.get.Goals as goal
 
-pub returns-in-Err-clause-damaged : goal.returns-in-Err-clause-damaged
-returns-in-Err-clause-damaged g c = λ told pairs top there. got_sound (Option ℕ) (lookup (key_of c.args.key.now) pairs) c.in-Err.fault c.from.result (c.in-Err.ensures.got told pairs (rw (c.tree-tree.ensures.height, c.tree-tree.ensures.top) top)) c.from.ensures
+pub returns-in-Ok-Some-clause-line : goal.returns-in-Ok-Some-clause-line
+returns-in-Ok-Some-clause-line g c told pairs top there =
+    let found = rw c.in-Ok-Some.field-0-is at c.in-Ok-Some.ensures.found told pairs top there in
+    ap (option_and_then (record_at (g.P.Pages.view c.args.self.now.pages).page)) found.at ∙ found.record_is
+
+pub returns-in-Ok-None-clause-line : goal.returns-in-Ok-None-clause-line
+returns-in-Ok-None-clause-line g c told pairs top there =
+    ap (option_and_then (record_at (g.P.Pages.view c.args.self.now.pages).page)) (rw c.in-Ok-None.field-0-is at c.in-Ok-None.ensures.found told pairs top there)
