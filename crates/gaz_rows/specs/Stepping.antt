@@ -27,9 +27,13 @@ IsChecked (Some reason) result = result ≡ Err (Malformed reason)
 IsChecked None (Err (Malformed reason)) = ⊥
 IsChecked None other = Unit
 
+-- The line is taken, and the pages stand for the gazetteer after it.
+abbrev pub HasSteppedTo : Gazetteer → Kind → List ℕ → PagesView → Root → Type 0
+HasSteppedTo gaz kind line new now = (next : Gazetteer) × (after_line gaz kind line ≡ Ok next) × IsStore next new now
+
 -- Pages that stand for a gazetteer stand after the step for the one after the line.
 abbrev pub HasStepped : Kind → List ℕ → PagesView → Root → PagesView → Root → Type 0
-HasStepped kind line old root new now = (gaz : Gazetteer) → IsStore gaz old root → (next : Gazetteer) × (after_line gaz kind line ≡ Ok next) × IsStore next new now
+HasStepped kind line old root new now = (gaz : Gazetteer) → IsStore gaz old root → HasSteppedTo gaz kind line new now
 
 -- Over pages that stand for a gazetteer the fault is that of the definition, or no damage.
 abbrev pub FailsRightly : Kind → List ℕ → PagesView → Root → StepFault → Type 0

@@ -2,6 +2,7 @@
 ghost use Rattle.std.specs.Prelude.{◌≡◌, None, Some, MatchResult, IsTrue};
 ghost use Rattle.gaz_num.specs.Check.{reason_against};
 ghost use Rattle.gaz_keys.specs.Lines.{IsKeyed, kind_of};
+ghost use Rattle.gaz_plain.specs.Gazetteer.{table_of, is_delete};
 ghost use Rattle.gaz_rows.specs.Target.{IsTargetOf};
 
 use gaz_alt::{check_alt, check_delete};
@@ -81,4 +82,24 @@ pub(crate) fn is_keyed(table: Table, line: &[u8]) -> bool
         Ok(None) => false,
         Err(_) => false,
     }
+}
+
+/// The table that a line of a kind changes.
+pub(crate) fn table_of(kind: Kind) -> Table
+    ensures { result ≡ table_of kind }
+{
+    match kind {
+        Kind::Row | Kind::RowDelete => Table::Rows,
+        Kind::Alt | Kind::AltDelete => Table::Alternates,
+        Kind::Link => Table::Links,
+        Kind::Country => Table::Countries,
+        Kind::Code => Table::Codes,
+    }
+}
+
+/// Whether a line of a kind only takes out.
+pub(crate) fn is_delete(kind: Kind) -> bool
+    ensures { result ≡ is_delete kind }
+{
+    matches!(kind, Kind::RowDelete | Kind::AltDelete)
 }
