@@ -93,9 +93,8 @@ pub fn first_of(key: &[u8; 32]) -> &[u8]
     }
 }
 
-/// The slot of a key with tag 6.
+/// The slot of a key with tag 6, the last four bytes of any other.
 pub fn slot_of(key: &[u8; 32]) -> u32
-    requires { part.tag_of key.now ≡ 6 }
     ensures { result ≡ part.slot_of key.now }
 {
     four_at(key, 28)

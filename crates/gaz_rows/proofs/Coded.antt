@@ -23,17 +23,23 @@ use Rattle.gaz_rows.specs.declared.fault.AskFault.{AskFault}
 use Rattle.gaz_tree.proofs.Fans.{head_within}
 use Rattle.gaz_scan.specs.Ranges.{between}
 use Rattle.gaz_keys.specs.Keys.{code_key}
-use Rattle.gaz_keys.specs.Parts.{tag_of, has_place}
+use Rattle.gaz_keys.specs.Parts.{tag_of, has_place, slot_of}
 use Rattle.gaz_rows.specs.Index.{line_key}
 use Rattle.gaz_rows.specs.Laid.{ends_of}
 use Rattle.gaz_rows.specs.Store.{IsStoreBut, IsAnswer, Answers, IsSound, IsSoundOver}
-use Rattle.gaz_rows.specs.Found.{HaveRecords, OverRange, coded_in, has_code, like_codes, records_of}
+use Rattle.gaz_rows.specs.Found.{HaveRecords, OverRange, Searches, SlotsRise, coded_in, has_code, like_codes, records_of, slot_in, size_found, slot_found}
+use Rattle.gaz_rows.specs.Steps.{IsSlotFor}
+use Rattle.gaz_rows.specs.declared.codes.Search.{Search}
+use Rattle.gaz_rows.specs.declared.codes.Search.TheVariants as search
 use Rattle.gaz_keys.proofs.Fit.{first_size}
 use Rattle.gaz_rows.proofs.Fit.{AreBytes, code_key_fits}
 use Rattle.gaz_rows.proofs.Finding.{same_found, kept_in, mapped_from, mapped_in, IsApart, no_longer}
 use Rattle.gaz_rows.proofs.Keyed.{some_inj}
-use Rattle.gaz_rows.proofs.Got.{value_is, line_at_tag}
-use Rattle.gaz_rows.proofs.Ranged.{each_found, in_range, range_rises, found_in_range, slot_added, first_read}
+use Rattle.gaz_rows.proofs.Got.{value_is, line_at_tag, has_key}
+use Rattle.gaz_rows.proofs.Ranged.{each_found, in_range, range_rises, found_in_range, slot_added, first_read, slot_read}
+use Rattle.gaz_rows.proofs.SlotKeys.{slot_key}
+use Rattle.gaz_rows.proofs.ReindexedLines.{find_has, none_is_some}
+use Rattle.gaz_plain.proofs.KeyOrder.{same_key}
 
 code_tag : (first : List ℕ) (slot : ℕ) → tag_of (code_key first slot) ≡ 6
 unfolding code_key
@@ -61,6 +67,7 @@ module _ (waiting : List (List ℕ)) (gaz : Gazetteer) (v : PagesView) (root : R
   -- A line stands at the place of the pair, and has its key with this slot.
   record IsCoded (pair : Pair) : Type 0 where
     slot : ℕ
+    small : slot < 2 ^ 32
     at : pair.key ≡ number_of (key slot)
     line : List ℕ
     there : Contains gaz.codes line
@@ -76,7 +83,7 @@ module _ (waiting : List (List ℕ)) (gaz : Gazetteer) (v : PagesView) (root : R
       let that = line_at_tag waiting gaz v.page (ends_of v root) stands Codes (key slot) (code_key_fits code slot bytes) (code_tag (first_bytes 23 code) slot) pair.value
       (subst (λ n. lookup n stands.pairs ≡ Some pair.value) is found)
       in
-      record { slot = slot; at = is; line = that.line; there = that.there; keyed = that.is; stands_at = that.stands }
+      record { slot = slot; small = small; at = is; line = that.line; there = that.there; keyed = that.is; stands_at = that.stands }
 
   within : Within 0 (2 ^ 256) stands.pairs
   within = subst (Within 0 (2 ^ 256)) stands.tree.holds (head_within v.page stands.tree.level root.top 0 (2 ^ 256) stands.tree.head)
@@ -106,8 +113,15 @@ module _ (waiting : List (List ℕ)) (gaz : Gazetteer) (v : PagesView) (root : R
       ap (option_and_then (record_at v.page)) (sym (value_is waiting gaz v.page (ends_of v root) stands (line_key stands.slots Codes line) (code_has (first_bytes 23 (column 1 line)) (stands.slots (column 1 line)))))
       ∙ stands.indexed.lines Codes line there
 
-  among_records : (line : List ℕ) → Contains gaz.codes line → first_bytes 23 (column 1 line) ≡ first_bytes 23 code → Contains (records_of v.page range) line
-  among_records line there same = by (lookup (number_of (key slot)) stands.pairs) refl (subst (λ first. option_and_then (record_at v.page) (lookup (number_of (code_key first slot)) stands.pairs) ≡ Some line) same (value_of_line line there))
+  -- the pair of a line with these first bytes
+  pub record IsPairOf (line : List ℕ) : Type 0 where
+    pub pair : Pair
+    pub among : Contains range pair
+    pub at : pair.key ≡ number_of (key (stands.slots (column 1 line)))
+    pub stands_at : record_at v.page pair.value ≡ Some line
+
+  pub pair_of : (line : List ℕ) → Contains gaz.codes line → first_bytes 23 (column 1 line) ≡ first_bytes 23 code → IsPairOf line
+  pair_of line there same = by (lookup (number_of (key slot)) stands.pairs) refl (subst (λ first. option_and_then (record_at v.page) (lookup (number_of (code_key first slot)) stands.pairs) ≡ Some line) same (value_of_line line there))
     where
       slot : ℕ
       slot = stands.slots (column 1 line)
@@ -115,14 +129,22 @@ module _ (waiting : List (List ℕ)) (gaz : Gazetteer) (v : PagesView) (root : R
       small : slot < 2 ^ 32
       small = stands.indexed.slots_differ.fit line there
 
-      by : (found : Option ℕ) → lookup (number_of (key slot)) stands.pairs ≡ found → option_and_then (record_at v.page) found ≡ Some line → Contains (records_of v.page range) line
+      by : (found : Option ℕ) → lookup (number_of (key slot)) stands.pairs ≡ found → option_and_then (record_at v.page) found ≡ Some line → IsPairOf line
       by None is stands_at = absurd (cc)
       by (Some place) is stands_at =
           let own = numbered slot small in
           let last = numbered (2 ^ 32 - 1) (omega arith) in
-          let pair : Pair = record { key = number_of (key slot); value = place } in
-          let in_it = found_in_range (number_of (key 0)) (number_of (key (2 ^ 32 - 1))) (number_of (key slot)) place stands.pairs is (omega (arith, own)) (omega (arith, own, last, small)) in
-          subst (Contains (records_of v.page range)) (ap (λ found. unwrap_or found []) stands_at) (mapped_in (record_of v) range pair in_it)
+          record {
+            pair = record { key = number_of (key slot); value = place };
+            among = found_in_range (number_of (key 0)) (number_of (key (2 ^ 32 - 1))) (number_of (key slot)) place stands.pairs is (omega (arith, own)) (omega (arith, own, last, small));
+            at = refl;
+            stands_at = stands_at;
+          }
+
+  among_records : (line : List ℕ) → Contains gaz.codes line → first_bytes 23 (column 1 line) ≡ first_bytes 23 code → Contains (records_of v.page range) line
+  among_records line there same =
+      let of = pair_of line there same in
+      subst (Contains (records_of v.page range)) (ap (λ found. unwrap_or found []) of.stands_at) (mapped_in (record_of v) range of.pair of.among)
 
   -- only one line has the code
   one_has_code : (line another : List ℕ) → Contains gaz.codes line → Contains gaz.codes another → has_code code line ≡ true → has_code code another ≡ true → line ≡ another
@@ -190,6 +212,74 @@ module _ (waiting : List (List ℕ)) (gaz : Gazetteer) (v : PagesView) (root : R
       let counts = ap (λ c. c.codes) stands.counts in
       omega (arith, few, most, counts)
 
+  -- ---- their slots
+
+  slot_at_key : (slot : ℕ) → slot < 2 ^ 32 → slot_in (number_of (key slot)) ≡ slot
+  slot_at_key slot small =
+      let read = slot_read (first_bytes 23 code) (first_size 23 code) slot small in
+      slot_key (key slot) (subst (λ n. n < 2 ^ 32) (sym read) small) ∙ read
+
+  -- the slot in the key of a pair is that of its line
+  slot_is : (pair : Pair) (is : IsCoded pair) → slot_in pair.key ≡ stands.slots (column 1 is.line)
+  slot_is pair is =
+      ap slot_in is.at
+      ∙ slot_at_key is.slot is.small
+      ∙ sym (sym (slot_read (first_bytes 23 (column 1 is.line)) (first_size 23 (column 1 is.line)) (stands.slots (column 1 is.line)) (stands.indexed.slots_differ.fit is.line is.there))
+      ∙ ap slot_of is.keyed
+      ∙ slot_read (first_bytes 23 code) (first_size 23 code) is.slot is.small)
+
+  rise_from : (least low high : ℕ) (ps : List Pair) → least ≤ low - number_of (key 0) → Within low high ps → All IsCoded ps → SlotsRise least ps
+  rise_from least low high [] at rises all = tt
+  rise_from least low high (p ∷ ps) at rises all =
+      let is = all 0 p (omega arith) in
+      let own = numbered is.slot is.small in
+      let here = ap slot_in is.at ∙ slot_at_key is.slot is.small in
+      let number = is.at in
+      let start = rises.0 in (
+        omega (arith, at, own, here, number, start),
+        rise_from (suc (slot_in p.key)) (suc p.key) high ps (omega (arith, own, here, number)) rises.1 (λ k d below. all (suc k) d (omega (arith, below))),
+      )
+
+  slots_rise : SlotsRise 0 range
+  slots_rise = rise_from 0 0 (2 ^ 256) range (omega arith) (range_rises (number_of (key 0)) (number_of (key (2 ^ 32 - 1))) 0 (2 ^ 256) stands.pairs within) all_coded
+
+  coded_pair : (pair : Pair) → Contains range pair → IsCoded pair
+  coded_pair pair has = All-contains IsCoded range pair all_coded has
+
+  -- A search among them comes to the line with the code, or to none.
+  pub search_line : (buf : List ℕ) (search : Search) → Searches code v.page buf range search → IsAnswer (line_with Codes code gaz) buf (size_found search)
+  search_line buf (search.Found slot size) found = sym code_found ∙ found.0
+  search_line buf (search.Free slot) found = sym code_found ∙ found.0
+
+  -- It comes to the slot for the code.
+  pub search_slot : (buf : List ℕ) (search : Search) → Searches code v.page buf range search → IsSlotFor stands.slots gaz code (slot_found search)
+  search_slot buf (search.Found slot size) found =
+      let here = sym code_found ∙ found.0 in
+      let pair = found.1.pair in
+      let is = coded_pair pair found.1.there in
+      let line : is.line ≡ take size buf = some_inj is.line (take size buf) (sym is.stands_at ∙ found.1.stands) in
+      record {
+        own = λ was has.
+            let has_it = find_has (has_key Codes code) gaz.codes was has in
+            let same : column 1 is.line ≡ code = ap (column 1) (line ∙ some_inj (take size buf) was (sym here ∙ has)) ∙ same_key (column 1 was) code has_it.1 in
+            ap stands.slots (sym same) ∙ sym (slot_is pair is) ∙ found.1.at;
+        new = λ none. absurd (none_is_some (take size buf) (sym none ∙ here));
+        least = λ none. absurd (none_is_some (take size buf) (sym none ∙ here));
+      }
+  search_slot buf (search.Free slot) found = record {
+    own = λ was has. absurd (none_is_some was (sym found.0 ∙ code_found ∙ has));
+    new = λ none. (
+      found.1.small,
+      λ line there same is.
+          let of = pair_of line there same in
+          found.1.free slots_rise of.pair of.among (ap slot_in of.at ∙ slot_at_key (stands.slots (column 1 line)) (stands.indexed.slots_differ.fit line there) ∙ is),
+    );
+    least = λ none less below.
+        let from = found.1.taken less below in
+        let is = coded_pair from.0 from.1 in
+        (is.line, is.there, like from.0 is, sym (slot_is from.0 is) ∙ from.2);
+  }
+
   -- what is said of a scan over the range holds of it
   pub over_range : (P : List Pair → Type 0) (scan : Scan) (low high : List ℕ) → low ≡ key 0 → high ≡ key (2 ^ 32 - 1) → IsTrue v.is_told
       → ((pages : ℕ → List ℕ) (pairs : List Pair) → IsTop pages root.height root.top pairs → Comes pages scan (between (number_of low) (number_of high) pairs))
@@ -209,11 +299,18 @@ abbrev pub Begins : Root → Scan → List ℕ → List ℕ → Type 0
 Begins root scan low high = (pages : ℕ → List ℕ) (pairs : List Pair) → IsTop pages root.height root.top pairs → Comes pages scan (between (number_of low) (number_of high) pairs)
 
 module _ (v : PagesView) (root : Root) (code : List ℕ) (bytes : AreBytes code) (scan : Scan) (low high : List ℕ) (bounds : AreBounds code low high) (begins : Begins root scan low high) where
-  pub code_answered : {E : Type 0} (buf : List ℕ) (result : Result (Option ℕ) E) → IfOk result (λ found. OverRange root.counts.codes v scan (λ left. IsAnswer (coded_in code v.page left) buf found)) → IfOk result (Answers Codes code v root buf)
-  code_answered buf (Ok found) finds = λ told waiting gaz stands.
-      sym (code_found waiting gaz v root stands code bytes)
-      ∙ over_range waiting gaz v root stands code bytes (λ left. IsAnswer (coded_in code v.page left) buf found) scan low high bounds.0 bounds.1 told begins finds
+  pub code_answered : {E : Type 0} (buf : List ℕ) (result : Result Search E) → IfOk result (λ search. OverRange root.counts.codes v scan (λ left. Searches code v.page buf left search)) → IfOk result (λ search. Answers Codes code v root buf (size_found search))
+  code_answered buf (Ok search) finds = λ told waiting gaz stands.
+      search_line waiting gaz v root stands code bytes buf search
+      (over_range waiting gaz v root stands code bytes (λ left. Searches code v.page buf left search) scan low high bounds.0 bounds.1 told begins finds)
   code_answered buf (Err fault) finds = tt
+
+  pub code_slot : {E : Type 0} (buf : List ℕ) (result : Result Search E) → IfOk result (λ search. OverRange root.counts.codes v scan (λ left. Searches code v.page buf left search))
+      → IfOk result (λ search. IsTrue v.is_told → (waiting : List (List ℕ)) (gaz : Gazetteer) → (stands : IsStoreBut waiting gaz v root) → IsSlotFor stands.slots gaz code (slot_found search))
+  code_slot buf (Ok search) finds = λ told waiting gaz stands.
+      search_slot waiting gaz v root stands code bytes buf search
+      (over_range waiting gaz v root stands code bytes (λ left. Searches code v.page buf left search) scan low high bounds.0 bounds.1 told begins finds)
+  code_slot buf (Err fault) finds = tt
 
   pub code_sound : {T : Type 0} (result : Result T AskFault) → IfErr result (λ fault. OverRange root.counts.codes v scan (λ left. IsSound fault)) → IfErr result (IsSoundOver v root)
   code_sound (Ok given) fails = tt

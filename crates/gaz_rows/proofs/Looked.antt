@@ -1,6 +1,6 @@
 -- A look at the next line of a scan, and looks one after the other.
-use Rattle.std.proofs.Common.{◌≡◌, ◌≤◌, ◌+◌, ℕ, suc, List, ◌∷◌, length, refl, sym, ◌∙◌, ap, arith, subst, true, false, Some, None, Result, Ok, Err}
-use Rattle.std.specs.Prelude.{IsTrue, IsSome}
+use Rattle.std.proofs.Common.{◌≡◌, ◌<◌, ◌≤◌, ◌+◌, ◌^◌, ℕ, suc, List, [], ◌∷◌, length, refl, sym, ◌∙◌, ap, arith, subst, true, false, Some, None, Result, Ok, Err}
+use Rattle.std.specs.Prelude.{IsTrue, IsSome, Contains}
 use Rattle.gaz_page.specs.Pages.{PagesView, SamePages, Counts}
 use Rattle.gaz_heap.specs.Place.{record_at}
 use Rattle.gaz_leaf.specs.Node.{Pair, key_of}
@@ -9,10 +9,13 @@ use Rattle.gaz_scan.specs.Scan.{Comes, IsGiven}
 use Rattle.gaz_rows.specs.declared.fault.AskFault.{AskFault}
 use Rattle.gaz_rows.specs.declared.fault.AskFault.TheVariants.{Failed, Damaged, Memory}
 use Rattle.gaz_rows.specs.Store.{HasAsked, UnlessFailed, FailsOnce, StarvesBy, IsSound}
-use Rattle.gaz_rows.specs.Found.{GivesNext, HaveRecords, ArePassed, coded_in, has_code}
+use Rattle.gaz_rows.specs.Found.{GivesNext, HaveRecords, IsPassed, StandsInSlot, coded_in, has_code, slot_in}
+use Rattle.gaz_keys.specs.Parts.{slot_of}
+use Rattle.gaz_rows.proofs.Members.{head_is_in}
+use Rattle.gaz_rows.proofs.SlotKeys.{slot_key}
 
-pub none_left : (code : List ℕ) (old new : ℕ → List ℕ) (scan : Scan) (left : List Pair) → GivesNext old new scan left (Ok None) → coded_in code old left ≡ None
-none_left code old new scan left gives = ap (coded_in code old) gives.0
+pub none_left : (old new : ℕ → List ℕ) (scan : Scan) (left : List Pair) → GivesNext old new scan left (Ok None) → left ≡ []
+none_left old new scan left gives = gives.0
 
 pub failed_soundly : (old new : ℕ → List ℕ) (scan : Scan) (left : List Pair) (fault : AskFault) → GivesNext old new scan left (Err fault) → IsSound fault
 failed_soundly old new scan left Failed gives = tt
@@ -21,37 +24,42 @@ failed_soundly old new scan left Memory gives = absurd gives
 
 -- a pair was given, at whose place a record stands
 module _ (code : List ℕ) (old mid new : ℕ → List ℕ) (scan : Scan) (left : List Pair) (given : List ℕ × ℕ) (mid_is : mid ≡ old) (have : HaveRecords old left) (gives : IsGiven mid scan left given) where
+  abbrev pair_given : Pair
+  pair_given = record { key = key_of given.0; value = given.1 }
+
   all_have : HaveRecords old (record { key = key_of given.0; value = given.1 } ∷ gives.rest)
   all_have = subst (HaveRecords old) gives.first have
 
   pub record_given : IsSome (record_at mid given.1)
   record_given = subst (λ pages. IsSome (record_at pages given.1)) (sym mid_is) (all_have 0 (record { key = 0; value = 0 }) (omega arith))
 
-  module _ (line : List ℕ) (there : IsSome (record_at mid given.1) → record_at mid given.1 ≡ Some line) where
+  module _ (slot : ℕ) (slot_is : slot ≡ slot_of given.0) (small : slot < 2 ^ 32) (line : List ℕ) (there : IsSome (record_at mid given.1) → record_at mid given.1 ≡ Some line) where
+    slot_at : slot_in pair_given.key ≡ slot
+    slot_at = slot_key given.0 (subst (λ n. n < 2 ^ 32) slot_is small) ∙ sym slot_is
+
     here : record_at old given.1 ≡ Some line
     here = subst (λ pages. record_at pages given.1 ≡ Some line) mid_is (there record_given)
 
-    pub line_coded : has_code code line ≡ true → coded_in code old left ≡ Some line
-    line_coded is = ap (coded_in code old) gives.first ∙ rw (here, is) refl
+    pub line_coded : has_code code line ≡ true → (coded_in code old left ≡ Some line) × StandsInSlot old left slot line
+    line_coded is = (
+      ap (coded_in code old) gives.first ∙ rw (here, is) refl,
+      record { pair = pair_given; there = subst (λ ps. Contains ps pair_given) (sym gives.first) (head_is_in pair_given gives.rest); at = slot_at; stands = here },
+    )
 
-    pub line_passed : has_code code line ≡ false → new ≡ mid → ArePassed 1 code old new scan left
+    pub line_passed : has_code code line ≡ false → new ≡ mid → IsPassed slot code old new scan left
     line_passed is new_is =
         let same : new ≡ old = new_is ∙ mid_is in
         record {
+          pair = pair_given;
           rest = gives.rest;
+          first = gives.first;
+          at = slot_at;
           comes = subst (λ pages. Comes pages scan gives.rest) (sym new_is) gives.comes;
           have = subst (λ pages. HaveRecords pages gives.rest) (sym same) (λ k d within. all_have (suc k) d (omega (arith, within)));
           same = ap (λ pages. coded_in code pages gives.rest) same ∙ sym (ap (coded_in code old) gives.first ∙ rw (here, is) refl);
-          count = ap length gives.first ∙ omega arith;
         }
 
 -- ---- one call after the other
-
-pub passed_on : (turns : ℕ) (code : List ℕ) (old mid new : ℕ → List ℕ) (scan scan_now : Scan) (left : List Pair) (p : ArePassed turns code old mid scan left) → ArePassed 1 code mid new scan_now p.rest → ArePassed (turns + 1) code old new scan_now left
-passed_on turns code old mid new scan scan_now left p q =
-    let before = p.count in
-    let now = q.count in
-    record { rest = q.rest; comes = q.comes; have = q.have; same = q.same ∙ p.same; count = omega (arith, before, now) }
 
 unless : {T : Type 0} (result : Result T AskFault) (P Q : Type 0) → (P → Q) → UnlessFailed result P → UnlessFailed result Q
 unless (Ok given) P Q to is = to is

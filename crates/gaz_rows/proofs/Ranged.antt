@@ -13,6 +13,7 @@ use Rattle.gaz_tree.specs.Pairs.{Within, lookup}
 use Rattle.gaz_tree.proofs.Lists.{lookup-same, lookup-other, Within-lower}
 use Rattle.gaz_scan.specs.Ranges.{between}
 use Rattle.gaz_keys.specs.Keys.{code_key}
+use Rattle.gaz_keys.specs.Parts.{slot_of}
 use Rattle.gaz_rows.proofs.Members.{head_is_in, tail_is_in}
 
 -- each pair is found at its key
@@ -128,3 +129,11 @@ module _ (first : List ℕ) (size : length first ≡ 23) where
   first_read slot = ap (λ n. take n ((first ++ replicate 4 0) ++ to_be_bytes w32 slot)) (sym size)
       ∙ take-append-le (length first) (first ++ replicate 4 0) (to_be_bytes w32 slot) (omega (arith, length-append first (replicate 4 0)))
       ∙ take-append_seam first (replicate 4 0)
+
+  -- its slot
+  pub slot_read : (slot : ℕ) → slot < 2 ^ 32 → slot_of (code_key first slot) ≡ slot
+  unfolding code_key
+  slot_read slot below = ap (λ xs. from_be_bytes w32 (take 4 xs)) end ∙ from_be_bytes-to_be_bytes_4 slot below
+    where
+      end : drop 28 (front ++ to_be_bytes w32 slot) ≡ to_be_bytes w32 slot
+      end = ap (λ n. drop n (front ++ to_be_bytes w32 slot)) (sym front_size) ∙ drop-append_seam front (to_be_bytes w32 slot)

@@ -1,5 +1,5 @@
 -- What a look-up by a key, a scan and a look at the codes of a range find, of the tree and the records alone.
-use Rattle.std.specs.Prelude.{◌≡◌, ◌≤◌, ◌+◌, take, length, map, find, All, unwrap_or, count_by, Bool, true, ℕ, List, [], Option, Some, None, IsSome, IsTrue, Contains, bytes_eq, option_and_then, Result, Ok, Err, if◌then◌else◌}
+use Rattle.std.specs.Prelude.{◌≡◌, ◌≢◌, ◌<◌, ◌≤◌, ◌%◌, ◌^◌, suc, ◌∷◌, take, length, map, find, All, unwrap_or, count_by, Bool, true, ℕ, List, [], Option, Some, None, IsSome, IsTrue, Contains, bytes_eq, option_and_then, Result, Ok, Err, if◌then◌else◌}
 use Rattle.gaz_num.specs.Pieces.{column}
 use Rattle.gaz_num.specs.declared.words.Table.{Table}
 use Rattle.gaz_plain.specs.Gazetteer.{Gazetteer, lines_in}
@@ -14,7 +14,11 @@ use Rattle.gaz_scan.specs.Scan.{Comes, IsGiven}
 use Rattle.gaz_rows.specs.declared.fault.AskFault.{AskFault}
 use Rattle.gaz_rows.specs.declared.fault.AskFault.TheVariants.{Failed}
 use Rattle.gaz_rows.specs.declared.codes.Look.{Look}
-use Rattle.gaz_rows.specs.declared.codes.Look.TheVariants.{Last, Found, Other}
+use Rattle.gaz_rows.specs.declared.codes.Look.TheVariants.{Last, Other}
+use Rattle.gaz_rows.specs.declared.codes.Look.TheVariants as look
+use Rattle.gaz_rows.specs.declared.codes.Search.{Search}
+use Rattle.gaz_rows.specs.declared.codes.Search.TheVariants.{Free}
+use Rattle.gaz_rows.specs.declared.codes.Search.TheVariants as search
 use Rattle.gaz_name.specs.Name.{first_bytes}
 use Rattle.gaz_keys.specs.Keys.{IsKey}
 use Rattle.gaz_keys.specs.Parts.{tag_of, has_place}
@@ -94,25 +98,64 @@ HaveRecords pages pairs = All (λ pair. IsSome (record_at pages pair.value)) pai
 abbrev pub coded_in : List ℕ → (ℕ → List ℕ) → List Pair → Option (List ℕ)
 coded_in code pages pairs = find (has_code code) (records_of pages pairs)
 
--- So many pairs are given, without the code, and the others are still to come.
-pub record ArePassed (turns : ℕ) (code : List ℕ) (old new : ℕ → List ℕ) (scan : Scan) (left : List Pair) : Type 0 where
+-- the slot in a key of an admin code that is a number
+abbrev pub slot_in : ℕ → ℕ
+slot_in key = key % 2 ^ 32
+
+-- The slots of these pairs rise, from one that is at least so high.
+abbrev pub SlotsRise : ℕ → List Pair → Type 0
+SlotsRise low [] = Unit {0}
+SlotsRise low (pair ∷ pairs) = (low ≤ slot_in pair.key) × SlotsRise (suc (slot_in pair.key)) pairs
+
+-- One of the pairs has the slot, and this line stands at its place.
+pub record StandsInSlot (pages : ℕ → List ℕ) (pairs : List Pair) (slot : ℕ) (line : List ℕ) : Type 0 where
+  pub pair : Pair
+  pub there : Contains pairs pair
+  pub at : slot_in pair.key ≡ slot
+  pub stands : record_at pages pair.value ≡ Some line
+
+-- The slot has four bytes. Each lesser one is that of one of the pairs, and if their slots rise, none of them has this one.
+pub record IsFreeIn (pairs : List Pair) (slot : ℕ) : Type 0 where
+  pub small : slot < 2 ^ 32
+  pub taken : (less : ℕ) → less < slot → (pair : Pair) × Contains pairs pair × (slot_in pair.key ≡ less)
+  pub free : SlotsRise 0 pairs → (pair : Pair) → Contains pairs pair → slot_in pair.key ≢ slot
+
+-- The first pair was given, which has this slot and whose line hasn't the code. The others are still to come.
+pub record IsPassed (slot : ℕ) (code : List ℕ) (old new : ℕ → List ℕ) (scan : Scan) (left : List Pair) : Type 0 where
+  pub pair : Pair
   pub rest : List Pair
+  pub first : left ≡ pair ∷ rest
+  pub at : slot_in pair.key ≡ slot
   pub comes : Comes new scan rest
   pub have : HaveRecords new rest
   pub same : coded_in code new rest ≡ coded_in code old left
-  pub count : length left ≡ turns + length rest
 
 -- What a look at the next pair comes to: none was left, the line with the code, or another line.
 abbrev pub Looks : List ℕ → (ℕ → List ℕ) → (ℕ → List ℕ) → Scan → List ℕ → List Pair → Result Look AskFault → Type 0
-Looks code old new scan buf left (Ok Last) = coded_in code old left ≡ None
-Looks code old new scan buf left (Ok (Found size)) = coded_in code old left ≡ Some (take size buf)
-Looks code old new scan buf left (Ok Other) = ArePassed 1 code old new scan left
+Looks code old new scan buf left (Ok Last) = left ≡ []
+Looks code old new scan buf left (Ok (look.Found slot size)) = (coded_in code old left ≡ Some (take size buf)) × StandsInSlot old left slot (take size buf)
+Looks code old new scan buf left (Ok (Other slot)) = IsPassed slot code old new scan left
 Looks code old new scan buf left (Err fault) = IsSound fault
 
 -- A line that is found has at most 65,535 bytes.
 abbrev pub IsShort : Look → Type 0
-IsShort (Found size) = size ≤ 65535
+IsShort (look.Found slot size) = size ≤ 65535
 IsShort other = Unit
+
+-- What a search among pairs comes to: the line with the code, or the least free slot.
+abbrev pub Searches : List ℕ → (ℕ → List ℕ) → List ℕ → List Pair → Search → Type 0
+Searches code pages buf left (search.Found slot size) = (coded_in code pages left ≡ Some (take size buf)) × StandsInSlot pages left slot (take size buf)
+Searches code pages buf left (Free slot) = (coded_in code pages left ≡ None) × IsFreeIn left slot
+
+-- how many bytes the line with the code has, if there is one
+abbrev pub size_found : Search → Option ℕ
+size_found (search.Found slot size) = Some size
+size_found (Free slot) = None
+
+-- the slot of the code, or the free one
+abbrev pub slot_found : Search → ℕ
+slot_found (search.Found slot size) = slot
+slot_found (Free slot) = slot
 
 -- P holds of the pairs that a scan has still to give, where records stand at their places, and there are no more than so many.
 abbrev pub OverRange : ℕ → PagesView → Scan → (List Pair → Type 0) → Type 0

@@ -88,11 +88,13 @@ pub record IsSlotOf (slots : Slots) (gaz : Gazetteer) (code : List ℕ) : Type 0
   pub small : slots code < 2 ^ 32
   pub alone : (line : List ℕ) → Contains gaz.codes line → first_bytes 23 (column 1 line) ≡ first_bytes 23 code → slots (column 1 line) ≡ slots code → column 1 line ≡ code
 
--- The slot of a code: its own where the gazetteer has it, and else the least of four bytes that no code with the same first bytes has.
+-- The slot for a code: its own where the gazetteer has it, else the least of those that no code with the same first bytes has.
 pub record IsSlotFor (slots : Slots) (gaz : Gazetteer) (code : List ℕ) (slot : ℕ) : Type 0 where
   pub own : (was : List ℕ) → line_with Codes code gaz ≡ Some was → slots code ≡ slot
   pub new : line_with Codes code gaz ≡ None → (slot < 2 ^ 32) × IsFreeSlot slots gaz code slot
-  pub least : line_with Codes code gaz ≡ None → (less : ℕ) → less < slot → (line : List ℕ) × Contains gaz.codes line × (first_bytes 23 (column 1 line) ≡ first_bytes 23 code) × (slots (column 1 line) ≡ less)
+  -- Each lesser one is that of some such code.
+  pub least : line_with Codes code gaz ≡ None → (less : ℕ) → less < slot
+      → (line : List ℕ) × Contains gaz.codes line × (first_bytes 23 (column 1 line) ≡ first_bytes 23 code) × (slots (column 1 line) ≡ less)
 
 -- A key is that of one line alone.
 abbrev pub KeysTell : Slots → Gazetteer → Type 0

@@ -1,32 +1,7 @@
-use Rattle.std.proofs.Common.{◌<◌, ◌≤◌, ◌+◌, ◌*◌, arith, subst, length}
-use Rattle.std.proofs.lemmas.List.Elements.{All-from_get_or}
-use Rattle.gaz_rows.specs.Found.{OverRange}
-use Rattle.gaz_rows.proofs.Coded.{code_answered, code_sound, code_reads}
 use Rattle.gaz_rows.proofs.store.RowStore.get_code.Goals as goal
 
-pub returns-clause-line : goal.returns-clause-line
-returns-clause-line g c =
-    let code = c.args.code.now in
-    code_answered (g.P.Pages.view c.args.self.now.pages) c.args.self.now.root code (All-from_get_or (λ byte. byte < 256) code 0 (λ i below. let fits = c.type_inv.code i in omega (arith, fits)))
-    c.scan-scan.result c.code_key_of.result c.code_key_of-2.result (c.code_key_of.ensures, c.code_key_of-2.ensures)
-    c.scan-scan.ensures.comes
-    c.find_code.new.buf c.find_code.result c.find_code.ensures.line
+pub returns-in-Ok-Found-clause-line : goal.returns-in-Ok-Found-clause-line
+returns-in-Ok-Found-clause-line g c = rw c.in-Ok-Found.field-0-is at c.in-Ok-Found.ensures.line
 
-pub returns-clause-damaged : goal.returns-clause-damaged
-returns-clause-damaged g c =
-    let code = c.args.code.now in
-    code_sound (g.P.Pages.view c.args.self.now.pages) c.args.self.now.root code (All-from_get_or (λ byte. byte < 256) code 0 (λ i below. let fits = c.type_inv.code i in omega (arith, fits)))
-    c.scan-scan.result c.code_key_of.result c.code_key_of-2.result (c.code_key_of.ensures, c.code_key_of-2.ensures)
-    c.scan-scan.ensures.comes
-    c.find_code.result c.find_code.ensures.damaged
-
-pub returns-clause-few : goal.returns-clause-few
-returns-clause-few g c =
-    let code = c.args.code.now in
-    let view = g.P.Pages.view in
-    code_reads (g.P.Pages.view c.args.self.now.pages) c.args.self.now.root code (All-from_get_or (λ byte. byte < 256) code 0 (λ i below. let fits = c.type_inv.code i in omega (arith, fits)))
-    c.scan-scan.result c.code_key_of.result c.code_key_of-2.result (c.code_key_of.ensures, c.code_key_of-2.ensures)
-    c.scan-scan.ensures.comes
-    (view c.find_code.new.self.pages).reads (2 * c.args.self.now.root.height + 17)
-    (subst (λ height. OverRange c.args.self.now.root.counts.codes (view c.args.self.now.pages) c.scan-scan.result
-    (λ left. (view c.find_code.new.self.pages).reads ≤ (view c.args.self.now.pages).reads + (2 * height + 17) * (length left + 1))) c.scan-scan.ensures.height c.find_code.ensures.few)
+pub returns-in-Ok-Free-clause-line : goal.returns-in-Ok-Free-clause-line
+returns-in-Ok-Free-clause-line g c = rw c.in-Ok-Free.field-0-is at c.in-Ok-Free.ensures.line
