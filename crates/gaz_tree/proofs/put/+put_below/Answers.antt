@@ -13,6 +13,10 @@ use Rattle.gaz_tree.specs.Calls.{Names}
 use Rattle.gaz_tree.proofs.Named.{names_failed, since_of, since_failed, mend_since}
 use Rattle.gaz_tree.proofs.Evened.{leaf_named, even_kept, even_kept_fine}
 use Rattle.gaz_tree.proofs.PutNamed.{put_since, put_up, put_split}
+use Rattle.gaz_page.proofs.Takes.{along_same, along_more}
+use Rattle.gaz_tree.proofs.Removes.{ok_map, ok_of}
+use Rattle.gaz_tree.proofs.Along.{along_step}
+use Rattle.gaz_tree.proofs.Down.{down_step, down_none}
 use Rattle.gaz_tree.proofs.put.+put_below.Goals as goal
 
 pub returns-then-level-eq0-clause-puts : goal.returns-then-level-eq0-clause-puts
@@ -221,4 +225,125 @@ returns-in-Ok-Split-clause-names g t c told =
     let next : c.args.level ≡ suc below = omega arith in
     let again : IsTrue (v c.put_below.new.pages).is_told = subst IsTrue (sym c.put_below.ensures.counts.told) still in
     put_split old mid (v c.put_below.new.pages) (v c.add_entry.new.pages) c.args.level below c.args.page (c.in-Ok.way.place + 1) c.add_entry.result next same
-    (c.in-Ok-Split.ensures.rises still) (let b = c.in-Ok.ensures.place told in omega arith) (c.add_entry.ensures.names again)
+    (c.in-Ok-Split.ensures.along still) (let b = c.in-Ok.ensures.place told in omega arith) (c.add_entry.ensures.names again)
+
+pub returns-then-level-eq0-clause-along : goal.returns-then-level-eq0-clause-along
+returns-then-level-eq0-clause-along g t c = ok_map _ _ c.put_leaf.result (λ along told.
+    let v = g.P.Pages.view in
+    let is = c.if-level-eq0.true in
+    along_more 1 (c.args.level + 1) (v c.args.pages.now) (v c.put_leaf.new.pages) (omega arith) (along told))
+    c.put_leaf.ensures.along
+
+pub returns-then-level-eq0-clause-down : goal.returns-then-level-eq0-clause-down
+returns-then-level-eq0-clause-down g t c = ok_map _ _ c.put_leaf.result (λ own told. down_none (g.P.Pages.view c.args.pages.now).page c.args.page (own told) c.args.level c.if-level-eq0.true) c.put_leaf.ensures.own
+
+pub returns-in-Ok-Split-clause-along : goal.returns-in-Ok-Split-clause-along
+returns-in-Ok-Split-clause-along g t c = ok_map _ _ c.add_entry.result (λ along told.
+    let v = g.P.Pages.view in
+    let old = v c.args.pages.now in
+    let mid = v c.read_way.new.pages in
+    let reads = c.in-Ok.ensures.reads in
+    let same = reads.same (λ failed. failed) told in
+    let still : IsTrue mid.is_told = subst IsTrue (sym reads.counts.told) told in
+    let some = c.if-level-eq0.false in
+    let below = c.args.level - 1 in
+    let next : c.args.level ≡ suc below = omega arith in
+    let less = v c.put_below.new.pages in
+    let again : IsTrue less.is_told = subst IsTrue (sym c.put_below.ensures.counts.told) still in
+    along_step c.args.level below 1 old mid less (v c.add_entry.new.pages) next (omega arith) same (c.in-Ok-Split.ensures.along still) (along again))
+    c.add_entry.ensures.along
+
+pub returns-in-Ok-Split-clause-down : goal.returns-in-Ok-Split-clause-down
+returns-in-Ok-Split-clause-down g t c = ok_of _ c.add_entry.result (λ told.
+    let v = g.P.Pages.view in
+    let old = v c.args.pages.now in
+    let mid = v c.read_way.new.pages in
+    let reads = c.in-Ok.ensures.reads in
+    let same = reads.same (λ failed. failed) told in
+    let still : IsTrue mid.is_told = subst IsTrue (sym reads.counts.told) told in
+    let some = c.if-level-eq0.false in
+    let below = c.args.level - 1 in
+    let next : c.args.level ≡ suc below = omega arith in
+    down_step (λ m leaf. Unit) old.page mid.page c.args.level below c.args.page c.in-Ok.way.child next same.pages (c.in-Ok.ensures.own told) (c.in-Ok.ensures.child told) (c.in-Ok-Split.ensures.down still))
+
+pub returns-then-level-ne1-clause-along : goal.returns-then-level-ne1-clause-along
+returns-then-level-ne1-clause-along g t c told =
+    let v = g.P.Pages.view in
+    let old = v c.args.pages.now in
+    let mid = v c.read_way.new.pages in
+    let reads = c.in-Ok.ensures.reads in
+    let same = reads.same (λ failed. failed) told in
+    let still : IsTrue mid.is_told = subst IsTrue (sym reads.counts.told) told in
+    let some = c.if-level-eq0.false in
+    let below = c.args.level - 1 in
+    let next : c.args.level ≡ suc below = omega arith in
+    let less = v c.put_below.new.pages in
+    along_step c.args.level below 0 old mid less less next (omega arith) same (c.in-Ok-Kept.ensures.along still) (along_same less less (record { pages = refl; free = refl; fresh = refl }))
+
+pub returns-then-level-ne1-clause-down : goal.returns-then-level-ne1-clause-down
+returns-then-level-ne1-clause-down g t c told =
+    let v = g.P.Pages.view in
+    let old = v c.args.pages.now in
+    let mid = v c.read_way.new.pages in
+    let reads = c.in-Ok.ensures.reads in
+    let same = reads.same (λ failed. failed) told in
+    let still : IsTrue mid.is_told = subst IsTrue (sym reads.counts.told) told in
+    let some = c.if-level-eq0.false in
+    let below = c.args.level - 1 in
+    let next : c.args.level ≡ suc below = omega arith in
+    down_step (λ m leaf. Unit) old.page mid.page c.args.level below c.args.page c.in-Ok.way.child next same.pages (c.in-Ok.ensures.own told) (c.in-Ok.ensures.child told) (c.in-Ok-Kept.ensures.down still)
+
+pub returns-in-Ok-even_out-clause-along : goal.returns-in-Ok-even_out-clause-along
+returns-in-Ok-even_out-clause-along g t c told =
+    let v = g.P.Pages.view in
+    let old = v c.args.pages.now in
+    let mid = v c.read_way.new.pages in
+    let reads = c.in-Ok.ensures.reads in
+    let same = reads.same (λ failed. failed) told in
+    let still : IsTrue mid.is_told = subst IsTrue (sym reads.counts.told) told in
+    let some = c.if-level-eq0.false in
+    let below = c.args.level - 1 in
+    let next : c.args.level ≡ suc below = omega arith in
+    let less = v c.put_below.new.pages in
+    let again : IsTrue less.is_told = subst IsTrue (sym c.put_below.ensures.counts.told) still in
+    along_step c.args.level below 0 old mid less (v c.even_out.new.pages) next (omega arith) same (c.in-Ok-Kept.ensures.along still) (c.in-Ok-even_out.ensures.along again)
+
+pub returns-in-Ok-even_out-clause-down : goal.returns-in-Ok-even_out-clause-down
+returns-in-Ok-even_out-clause-down g t c told =
+    let v = g.P.Pages.view in
+    let old = v c.args.pages.now in
+    let mid = v c.read_way.new.pages in
+    let reads = c.in-Ok.ensures.reads in
+    let same = reads.same (λ failed. failed) told in
+    let still : IsTrue mid.is_told = subst IsTrue (sym reads.counts.told) told in
+    let some = c.if-level-eq0.false in
+    let below = c.args.level - 1 in
+    let next : c.args.level ≡ suc below = omega arith in
+    down_step (λ m leaf. Unit) old.page mid.page c.args.level below c.args.page c.in-Ok.way.child next same.pages (c.in-Ok.ensures.own told) (c.in-Ok.ensures.child told) (c.in-Ok-Kept.ensures.down still)
+
+pub returns-in-Ok-Same-clause-along : goal.returns-in-Ok-Same-clause-along
+returns-in-Ok-Same-clause-along g t c told =
+    let v = g.P.Pages.view in
+    let old = v c.args.pages.now in
+    let mid = v c.read_way.new.pages in
+    let reads = c.in-Ok.ensures.reads in
+    let same = reads.same (λ failed. failed) told in
+    let still : IsTrue mid.is_told = subst IsTrue (sym reads.counts.told) told in
+    let some = c.if-level-eq0.false in
+    let below = c.args.level - 1 in
+    let next : c.args.level ≡ suc below = omega arith in
+    let less = v c.put_below.new.pages in
+    along_step c.args.level below 0 old mid less less next (omega arith) same (c.in-Ok-Same.ensures.along still) (along_same less less (record { pages = refl; free = refl; fresh = refl }))
+
+pub returns-in-Ok-Same-clause-down : goal.returns-in-Ok-Same-clause-down
+returns-in-Ok-Same-clause-down g t c told =
+    let v = g.P.Pages.view in
+    let old = v c.args.pages.now in
+    let mid = v c.read_way.new.pages in
+    let reads = c.in-Ok.ensures.reads in
+    let same = reads.same (λ failed. failed) told in
+    let still : IsTrue mid.is_told = subst IsTrue (sym reads.counts.told) told in
+    let some = c.if-level-eq0.false in
+    let below = c.args.level - 1 in
+    let next : c.args.level ≡ suc below = omega arith in
+    down_step (λ m leaf. Unit) old.page mid.page c.args.level below c.args.page c.in-Ok.way.child next same.pages (c.in-Ok.ensures.own told) (c.in-Ok.ensures.child told) (c.in-Ok-Same.ensures.down still)

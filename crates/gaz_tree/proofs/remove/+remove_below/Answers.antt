@@ -13,6 +13,8 @@ use Rattle.gaz_tree.specs.declared.way.Way.{Way}
 use Rattle.gaz_tree.specs.Calls.{Names, NamesSince}
 use Rattle.gaz_tree.proofs.Named.{names_failed, since_of, since_below, mend_since, two_of_filled, way_fine}
 use Rattle.gaz_tree.proofs.Ready.{mended_fine}
+use Rattle.gaz_tree.proofs.Removes.{ok_map, ok_of}
+use Rattle.gaz_tree.proofs.Down.{down_step, down_none}
 use Rattle.gaz_tree.proofs.remove.+remove_below.Goals as goal
 
 pub returns-then-level-eq0-clause-removes : goal.returns-then-level-eq0-clause-removes
@@ -186,3 +188,45 @@ returns-in-Ok-Low-clause-names g t c told =
     let again : IsTrue less.is_told = subst IsTrue (sym c.remove_below.ensures.counts.told) still in
     mend_since old.page less.page (v c.mend.new.pages).page c.args.level below c.args.page c.in-Ok.way.place c.kind_of.result c.mend.result next c.kind_of.ensures
     (c.in-Ok.ensures.place told) (c.mend.ensures.names again)
+
+pub returns-then-level-eq0-clause-down : goal.returns-then-level-eq0-clause-down
+returns-then-level-eq0-clause-down g t c = ok_map _ _ c.remove_leaf.result (λ own told. down_none (g.P.Pages.view c.args.pages.now).page c.args.page (own told) c.args.level c.if-level-eq0.true) c.remove_leaf.ensures.own
+
+pub returns-in-Ok-Low-clause-down : goal.returns-in-Ok-Low-clause-down
+returns-in-Ok-Low-clause-down g t c = ok_of _ c.mend.result (λ told.
+    let v = g.P.Pages.view in
+    let old = v c.args.pages.now in
+    let mid = v c.read_way.new.pages in
+    let reads = c.in-Ok.ensures.reads in
+    let same = reads.same (λ failed. failed) told in
+    let still : IsTrue mid.is_told = subst IsTrue (sym reads.counts.told) told in
+    let some = c.if-level-eq0.false in
+    let below = c.args.level - 1 in
+    let next : c.args.level ≡ suc below = omega arith in
+    down_step (λ m leaf. Unit) old.page mid.page c.args.level below c.args.page c.in-Ok.way.child next same.pages (c.in-Ok.ensures.own told) (c.in-Ok.ensures.child told) (c.in-Ok-Low.ensures.down still))
+
+pub returns-in-Ok-Fine-clause-down : goal.returns-in-Ok-Fine-clause-down
+returns-in-Ok-Fine-clause-down g t c told =
+    let v = g.P.Pages.view in
+    let old = v c.args.pages.now in
+    let mid = v c.read_way.new.pages in
+    let reads = c.in-Ok.ensures.reads in
+    let same = reads.same (λ failed. failed) told in
+    let still : IsTrue mid.is_told = subst IsTrue (sym reads.counts.told) told in
+    let some = c.if-level-eq0.false in
+    let below = c.args.level - 1 in
+    let next : c.args.level ≡ suc below = omega arith in
+    down_step (λ m leaf. Unit) old.page mid.page c.args.level below c.args.page c.in-Ok.way.child next same.pages (c.in-Ok.ensures.own told) (c.in-Ok.ensures.child told) (c.in-Ok-Fine.ensures.down still)
+
+pub returns-in-Ok-Absent-clause-down : goal.returns-in-Ok-Absent-clause-down
+returns-in-Ok-Absent-clause-down g t c told =
+    let v = g.P.Pages.view in
+    let old = v c.args.pages.now in
+    let mid = v c.read_way.new.pages in
+    let reads = c.in-Ok.ensures.reads in
+    let same = reads.same (λ failed. failed) told in
+    let still : IsTrue mid.is_told = subst IsTrue (sym reads.counts.told) told in
+    let some = c.if-level-eq0.false in
+    let below = c.args.level - 1 in
+    let next : c.args.level ≡ suc below = omega arith in
+    down_step (λ m leaf. Unit) old.page mid.page c.args.level below c.args.page c.in-Ok.way.child next same.pages (c.in-Ok.ensures.own told) (c.in-Ok.ensures.child told) (c.in-Ok-Absent.ensures.down still)
