@@ -6,7 +6,7 @@ use Rattle.gaz_tree.specs.declared.grown.Grown.{Grown}
 use Rattle.gaz_tree.specs.declared.grown.Grown.TheVariants.{Same, Kept, Split}
 use Rattle.gaz_tree.specs.Tree.{next_key, IsHead, Reaches}
 use Rattle.gaz_tree.specs.Put.{Puts}
-use Rattle.gaz_tree.proofs.Answered.{step_in, puts_over, split_answered, kept_answered, same_answered, damage_up, no_damage}
+use Rattle.gaz_tree.proofs.Answered.{IsReadAt, step_in, puts_over, split_answered, kept_answered, same_answered, damage_up, no_damage}
 use Rattle.gaz_page.specs.declared.pages.PageFault.{PageFault}
 use Rattle.gaz_tree.specs.declared.way.Way.{Way}
 use Rattle.gaz_tree.specs.Calls.{Names}
@@ -17,7 +17,42 @@ use Rattle.gaz_page.proofs.Takes.{along_same, along_more}
 use Rattle.gaz_tree.proofs.Removes.{ok_map, ok_of}
 use Rattle.gaz_tree.proofs.Along.{along_step}
 use Rattle.gaz_tree.proofs.Down.{down_step, down_none}
+use Rattle.gaz_page.specs.Pages.{PagesView}
+use Rattle.gaz_page.specs.Chains.{TakesAlong}
+use Rattle.gaz_tree.specs.Calls.{LeadsDown}
+use Rattle.gaz_tree.proofs.put.+put_below.Given.{Over}
+use Rattle.gaz_tree.proofs.put.+put_below.Goals.{In-Ok}
 use Rattle.gaz_tree.proofs.put.+put_below.Goals as goal
+
+-- the pages before, and once the way was read
+abbrev before : (g : Over) (t : ℕ) → In-Ok g t → PagesView
+before g t c = g.P.Pages.view c.args.pages.now
+
+abbrev after : (g : Over) (t : ℕ) → In-Ok g t → PagesView
+after g t c = g.P.Pages.view c.read_way.new.pages
+
+-- what is known then
+read : (g : Over) (t : ℕ) (c : In-Ok g t) → IsTrue (before g t c).is_told → IsReadAt (before g t c) (after g t c) c.args.level
+read g t c told =
+    let reads = c.in-Ok.ensures.reads in
+    let some = c.if-level-eq0.false in
+    record { same = reads.same (λ failed. failed) told; still = subst IsTrue (sym reads.counts.told) told; next = omega arith }
+
+-- the page leads down where its child does
+down : (g : Over) (t : ℕ) (c : In-Ok g t) → IsTrue (before g t c).is_told → (IsTrue (after g t c).is_told → LeadsDown (after g t c).page (λ leaf. Unit) (c.args.level - 1) c.in-Ok.way.child) → LeadsDown (before g t c).page (λ leaf. Unit) c.args.level c.args.page
+down g t c told below =
+    let r = read g t c told in
+    down_step (λ m leaf. Unit) (before g t c).page (after g t c).page c.args.level (c.args.level - 1) c.args.page c.in-Ok.way.child r.next r.same.pages (c.in-Ok.ensures.own told) (c.in-Ok.ensures.child told) (below r.still)
+
+-- the pages that were taken at the child's, and one more at most
+along : (g : Over) (t : ℕ) (c : In-Ok g t) (less new : PagesView) (more : ℕ) → more ≤ 1 → IsTrue (before g t c).is_told → (IsTrue (after g t c).is_told → TakesAlong (c.args.level - 1 + 1) (after g t c) less) → TakesAlong more less new → TakesAlong (c.args.level + 1) (before g t c) new
+along g t c less new more few told below then_ =
+    let r = read g t c told in
+    along_step c.args.level (c.args.level - 1) more (before g t c) (after g t c) less new r.next few r.same (below r.still) then_
+
+-- the same pages
+stay : (v : PagesView) → TakesAlong 0 v v
+stay v = along_same v v (record { pages = refl; free = refl; fresh = refl })
 
 pub returns-then-level-eq0-clause-puts : goal.returns-then-level-eq0-clause-puts
 returns-then-level-eq0-clause-puts g t c told low high head lo hi lies chain =
@@ -238,112 +273,33 @@ pub returns-then-level-eq0-clause-down : goal.returns-then-level-eq0-clause-down
 returns-then-level-eq0-clause-down g t c = ok_map _ _ c.put_leaf.result (λ own told. down_none (g.P.Pages.view c.args.pages.now).page c.args.page (own told) c.args.level c.if-level-eq0.true) c.put_leaf.ensures.own
 
 pub returns-in-Ok-Split-clause-along : goal.returns-in-Ok-Split-clause-along
-returns-in-Ok-Split-clause-along g t c = ok_map _ _ c.add_entry.result (λ along told.
+returns-in-Ok-Split-clause-along g t c = ok_map _ _ c.add_entry.result (λ more told.
     let v = g.P.Pages.view in
-    let old = v c.args.pages.now in
-    let mid = v c.read_way.new.pages in
-    let reads = c.in-Ok.ensures.reads in
-    let same = reads.same (λ failed. failed) told in
-    let still : IsTrue mid.is_told = subst IsTrue (sym reads.counts.told) told in
-    let some = c.if-level-eq0.false in
-    let below = c.args.level - 1 in
-    let next : c.args.level ≡ suc below = omega arith in
     let less = v c.put_below.new.pages in
-    let again : IsTrue less.is_told = subst IsTrue (sym c.put_below.ensures.counts.told) still in
-    along_step c.args.level below 1 old mid less (v c.add_entry.new.pages) next (omega arith) same (c.in-Ok-Split.ensures.along still) (along again))
+    along g t (goal.at.returns-in-Ok-Split-clause-along g t c).In-Ok less (v c.add_entry.new.pages) 1 (omega arith) told c.in-Ok-Split.ensures.along
+    (more (subst IsTrue (sym c.put_below.ensures.counts.told) (read g t (goal.at.returns-in-Ok-Split-clause-along g t c).In-Ok told).still)))
     c.add_entry.ensures.along
 
 pub returns-in-Ok-Split-clause-down : goal.returns-in-Ok-Split-clause-down
-returns-in-Ok-Split-clause-down g t c = ok_of _ c.add_entry.result (λ told.
-    let v = g.P.Pages.view in
-    let old = v c.args.pages.now in
-    let mid = v c.read_way.new.pages in
-    let reads = c.in-Ok.ensures.reads in
-    let same = reads.same (λ failed. failed) told in
-    let still : IsTrue mid.is_told = subst IsTrue (sym reads.counts.told) told in
-    let some = c.if-level-eq0.false in
-    let below = c.args.level - 1 in
-    let next : c.args.level ≡ suc below = omega arith in
-    down_step (λ m leaf. Unit) old.page mid.page c.args.level below c.args.page c.in-Ok.way.child next same.pages (c.in-Ok.ensures.own told) (c.in-Ok.ensures.child told) (c.in-Ok-Split.ensures.down still))
+returns-in-Ok-Split-clause-down g t c = ok_of _ c.add_entry.result (λ told. down g t (goal.at.returns-in-Ok-Split-clause-down g t c).In-Ok told c.in-Ok-Split.ensures.down)
 
 pub returns-then-level-ne1-clause-along : goal.returns-then-level-ne1-clause-along
-returns-then-level-ne1-clause-along g t c told =
-    let v = g.P.Pages.view in
-    let old = v c.args.pages.now in
-    let mid = v c.read_way.new.pages in
-    let reads = c.in-Ok.ensures.reads in
-    let same = reads.same (λ failed. failed) told in
-    let still : IsTrue mid.is_told = subst IsTrue (sym reads.counts.told) told in
-    let some = c.if-level-eq0.false in
-    let below = c.args.level - 1 in
-    let next : c.args.level ≡ suc below = omega arith in
-    let less = v c.put_below.new.pages in
-    along_step c.args.level below 0 old mid less less next (omega arith) same (c.in-Ok-Kept.ensures.along still) (along_same less less (record { pages = refl; free = refl; fresh = refl }))
+returns-then-level-ne1-clause-along g t c told = let less = g.P.Pages.view c.put_below.new.pages in along g t (goal.at.returns-then-level-ne1-clause-along g t c).In-Ok less less 0 (omega arith) told c.in-Ok-Kept.ensures.along (stay less)
 
 pub returns-then-level-ne1-clause-down : goal.returns-then-level-ne1-clause-down
-returns-then-level-ne1-clause-down g t c told =
-    let v = g.P.Pages.view in
-    let old = v c.args.pages.now in
-    let mid = v c.read_way.new.pages in
-    let reads = c.in-Ok.ensures.reads in
-    let same = reads.same (λ failed. failed) told in
-    let still : IsTrue mid.is_told = subst IsTrue (sym reads.counts.told) told in
-    let some = c.if-level-eq0.false in
-    let below = c.args.level - 1 in
-    let next : c.args.level ≡ suc below = omega arith in
-    down_step (λ m leaf. Unit) old.page mid.page c.args.level below c.args.page c.in-Ok.way.child next same.pages (c.in-Ok.ensures.own told) (c.in-Ok.ensures.child told) (c.in-Ok-Kept.ensures.down still)
+returns-then-level-ne1-clause-down g t c told = down g t (goal.at.returns-then-level-ne1-clause-down g t c).In-Ok told c.in-Ok-Kept.ensures.down
 
 pub returns-in-Ok-even_out-clause-along : goal.returns-in-Ok-even_out-clause-along
 returns-in-Ok-even_out-clause-along g t c told =
     let v = g.P.Pages.view in
-    let old = v c.args.pages.now in
-    let mid = v c.read_way.new.pages in
-    let reads = c.in-Ok.ensures.reads in
-    let same = reads.same (λ failed. failed) told in
-    let still : IsTrue mid.is_told = subst IsTrue (sym reads.counts.told) told in
-    let some = c.if-level-eq0.false in
-    let below = c.args.level - 1 in
-    let next : c.args.level ≡ suc below = omega arith in
-    let less = v c.put_below.new.pages in
-    let again : IsTrue less.is_told = subst IsTrue (sym c.put_below.ensures.counts.told) still in
-    along_step c.args.level below 0 old mid less (v c.even_out.new.pages) next (omega arith) same (c.in-Ok-Kept.ensures.along still) (c.in-Ok-even_out.ensures.along again)
+    along g t (goal.at.returns-in-Ok-even_out-clause-along g t c).In-Ok (v c.put_below.new.pages) (v c.even_out.new.pages) 0 (omega arith) told c.in-Ok-Kept.ensures.along
+    (c.in-Ok-even_out.ensures.along (subst IsTrue (sym c.put_below.ensures.counts.told) (read g t (goal.at.returns-in-Ok-even_out-clause-along g t c).In-Ok told).still))
 
 pub returns-in-Ok-even_out-clause-down : goal.returns-in-Ok-even_out-clause-down
-returns-in-Ok-even_out-clause-down g t c told =
-    let v = g.P.Pages.view in
-    let old = v c.args.pages.now in
-    let mid = v c.read_way.new.pages in
-    let reads = c.in-Ok.ensures.reads in
-    let same = reads.same (λ failed. failed) told in
-    let still : IsTrue mid.is_told = subst IsTrue (sym reads.counts.told) told in
-    let some = c.if-level-eq0.false in
-    let below = c.args.level - 1 in
-    let next : c.args.level ≡ suc below = omega arith in
-    down_step (λ m leaf. Unit) old.page mid.page c.args.level below c.args.page c.in-Ok.way.child next same.pages (c.in-Ok.ensures.own told) (c.in-Ok.ensures.child told) (c.in-Ok-Kept.ensures.down still)
+returns-in-Ok-even_out-clause-down g t c told = down g t (goal.at.returns-in-Ok-even_out-clause-down g t c).In-Ok told c.in-Ok-Kept.ensures.down
 
 pub returns-in-Ok-Same-clause-along : goal.returns-in-Ok-Same-clause-along
-returns-in-Ok-Same-clause-along g t c told =
-    let v = g.P.Pages.view in
-    let old = v c.args.pages.now in
-    let mid = v c.read_way.new.pages in
-    let reads = c.in-Ok.ensures.reads in
-    let same = reads.same (λ failed. failed) told in
-    let still : IsTrue mid.is_told = subst IsTrue (sym reads.counts.told) told in
-    let some = c.if-level-eq0.false in
-    let below = c.args.level - 1 in
-    let next : c.args.level ≡ suc below = omega arith in
-    let less = v c.put_below.new.pages in
-    along_step c.args.level below 0 old mid less less next (omega arith) same (c.in-Ok-Same.ensures.along still) (along_same less less (record { pages = refl; free = refl; fresh = refl }))
+returns-in-Ok-Same-clause-along g t c told = let less = g.P.Pages.view c.put_below.new.pages in along g t (goal.at.returns-in-Ok-Same-clause-along g t c).In-Ok less less 0 (omega arith) told c.in-Ok-Same.ensures.along (stay less)
 
 pub returns-in-Ok-Same-clause-down : goal.returns-in-Ok-Same-clause-down
-returns-in-Ok-Same-clause-down g t c told =
-    let v = g.P.Pages.view in
-    let old = v c.args.pages.now in
-    let mid = v c.read_way.new.pages in
-    let reads = c.in-Ok.ensures.reads in
-    let same = reads.same (λ failed. failed) told in
-    let still : IsTrue mid.is_told = subst IsTrue (sym reads.counts.told) told in
-    let some = c.if-level-eq0.false in
-    let below = c.args.level - 1 in
-    let next : c.args.level ≡ suc below = omega arith in
-    down_step (λ m leaf. Unit) old.page mid.page c.args.level below c.args.page c.in-Ok.way.child next same.pages (c.in-Ok.ensures.own told) (c.in-Ok.ensures.child told) (c.in-Ok-Same.ensures.down still)
+returns-in-Ok-Same-clause-down g t c told = down g t (goal.at.returns-in-Ok-Same-clause-down g t c).In-Ok told c.in-Ok-Same.ensures.down
