@@ -12,7 +12,8 @@ use Rattle.gaz_slots.proofs.Form.{used_record}
 use Rattle.gaz_slots.proofs.PageKinds.{free_not_record}
 use Rattle.gaz_slots.proofs.Recorded.{formed, unformed}
 use Rattle.gaz_heap.proofs.Holds.{each_more, far, record_slot, pages_slot, holds_still, nothing}
-use Rattle.gaz_heap.proofs.StoredPuts.{free_still, free_differ, chain_differs, slot_equal}
+use Rattle.gaz_heap.proofs.StoredPuts.{free_differ, chain_differs, slot_equal}
+use Rattle.gaz_page.proofs.FreeChains.{free_still}
 
 -- what both ways of dropping a slot have in common
 pub record OneSlot (number slot place : ℕ) (old new : PagesView) : Type 0 where

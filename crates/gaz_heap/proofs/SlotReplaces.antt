@@ -65,8 +65,8 @@ chain_step : (pages new : ℕ → List ℕ) (most first : ℕ) → new first ≡
 unfolding chain_at
 chain_step pages new most first same more =
     λ i. if is_overflow_page first (same i)
-         then (if next_in (same i) == 0 then Some (piece_in (same i)) else with_piece (same i) (more (next_in (same i)) i))
-         else None
+    then (if next_in (same i) == 0 then Some (piece_in (same i)) else with_piece (same i) (more (next_in (same i)) i))
+    else None
 
 -- no chain begins at a record page
 none_at : (pages : ℕ → List ℕ) (number first most : ℕ) → is_record_page number (pages number) ≡ true → first ≡ number → chain_at most pages first ≡ None

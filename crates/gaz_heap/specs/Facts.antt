@@ -1,10 +1,9 @@
 -- What is supposed of pages that hold records, and what a put and a drop then make of the records.
-use Rattle.std.specs.Prelude.{◌≡◌, ◌≢◌, ◌≤◌, ◌<◌, ◌+◌, ◌-◌, ◌^◌, ◌⊎◌, ℕ, true, false, IsTrue, List, [], ◌∷◌, length, Some, None, Result, Err, IsSome}
+use Rattle.std.specs.Prelude.{◌≡◌, ◌≢◌, ◌≤◌, ◌<◌, ◌+◌, ◌-◌, ◌^◌, ◌⊎◌, ℕ, true, false, IsTrue, List, length, Some, None, Result, Err, IsSome}
 use Rattle.gaz_page.specs.declared.pages.PageFault.{PageFault}
 use Rattle.gaz_page.specs.declared.pages.PageFault.TheVariants.{Damaged}
-use Rattle.gaz_page.specs.Free.{free_link}
 use Rattle.gaz_page.specs.Pages.{PagesView}
-use Rattle.gaz_page.specs.Chains.{Each, Among, InUse, IsTakenSince, IsFreeChain}
+use Rattle.gaz_page.specs.Chains.{Each, Among, InUse, IsTakenSince, IsFreeChain, TakeMeets}
 use Rattle.gaz_slots.specs.Overflow.{is_overflow_page}
 use Rattle.gaz_slots.specs.RecordPage.{is_record_page, is_used, slot_record}
 use Rattle.gaz_heap.specs.Place.{record_at, pages_of, page_of, slot_of, is_chain}
@@ -152,28 +151,15 @@ abbrev pub LongFails : PagesView → List ℕ → Result ℕ PageFault → Type 
 LongFails old free (Err (Damaged page)) = (page ≡ 0) × IsUsedUp old free
 LongFails old free _ = Unit
 
--- the free chain comes by its links from the first free page to this one, through these pages, the last one first
-abbrev pub ComesTo : PagesView → List ℕ → ℕ → Type 0
-ComesTo v [] page = page ≡ v.free
-ComesTo v (n ∷ earlier) page = ComesTo v earlier n × (n ≢ 0) × (free_link n (v.page n) ≡ Some page)
-
--- One of at most 17 takes meets damage at this page, whatever the free chain is: the chain comes to its end there and pages are used up, or to a
--- page that isn't a free one in form, or to one that it came through before.
-pub record TakeMeets (v : PagesView) (page : ℕ) : Type 0 where
-  pub passed : List ℕ
-  pub few : length passed ≤ 16
-  pub comes : ComesTo v passed page
-  pub broken : ((page ≡ 0) × (2 ^ 32 - 18 ≤ v.fresh)) ⊎ ((page ≢ 0) × ((free_link page (v.page page) ≡ None) ⊎ Among passed page))
-
--- the damage that a put of a long record names, whatever is supposed of the pages: damage that a take meets
+-- the damage that a put of a long record names, whatever is supposed of the pages: what one of 17 takes meets
 abbrev pub LongNames : PagesView → Result ℕ PageFault → Type 0
-LongNames old (Err (Damaged page)) = TakeMeets old page
+LongNames old (Err (Damaged page)) = TakeMeets 17 old page
 LongNames old _ = Unit
 
 -- The damage that a put names, whatever is supposed of the pages: the page for new records, where it isn't a record page in form and the record
--- is one for it, or damage that a take meets.
+-- is one for it, or what one of 17 takes meets.
 abbrev pub PutNames : PagesView → ℕ → List ℕ → Result ℕ PageFault → Type 0
-PutNames old current bytes (Err (Damaged page)) = ((length bytes ≤ 4076) × (page ≡ current) × (current ≢ 0) × (is_record_page current (old.page current) ≡ false)) ⊎ TakeMeets old page
+PutNames old current bytes (Err (Damaged page)) = ((length bytes ≤ 4076) × (page ≡ current) × (current ≢ 0) × (is_record_page current (old.page current) ≡ false)) ⊎ TakeMeets 17 old page
 PutNames old current bytes _ = Unit
 
 -- each page of the place is one of its kind: a record page in form of which the slot is used, or an overflow page in form

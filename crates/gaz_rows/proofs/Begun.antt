@@ -8,10 +8,11 @@ use Rattle.gaz_page.specs.declared.tree_root.Root.{Root}
 use Rattle.gaz_page.specs.declared.pages.PageFault.{PageFault}
 use Rattle.gaz_page.specs.declared.pages.PageFault.TheVariants as page
 use Rattle.gaz_page.specs.Pages.{PagesView, IsDamaged, damage}
-use Rattle.gaz_page.specs.Chains.{IsFreeChain}
 use Rattle.gaz_heap.specs.Place.{record_at}
+use Rattle.gaz_heap.proofs.NewPuts.{in_use_of}
 use Rattle.gaz_tree.specs.Put.{HasChain, IsFree, Trades}
 use Rattle.gaz_tree.specs.Stands.{Stands as IsTreeOf, OfTree}
+use Rattle.gaz_tree.proofs.Chains.{on_chain}
 use Rattle.gaz_tree.proofs.Trading.{in_chain}
 use Rattle.gaz_keys.proofs.Tags.{contained, contained_none}
 use Rattle.gaz_rows.specs.declared.fault.AskFault.{AskFault}
@@ -21,7 +22,7 @@ use Rattle.gaz_rows.specs.Laid.{ends_of, tree_in}
 use Rattle.gaz_rows.specs.Stands.{Use, tree, slots, chain, free, IsFor, HasSlots, AreUsedOnce, value_in, counts_of}
 use Rattle.gaz_rows.specs.Store.{IsStore, IsUndamaged}
 use Rattle.gaz_rows.proofs.AtFirst.{empty_is}
-use Rattle.gaz_rows.proofs.LaidForms.{contains_of, among_of, chain_of_tree, linked_of, chain_low, chain_form, tree_form, tree_not_free}
+use Rattle.gaz_rows.proofs.LaidForms.{contains_of, among_of, linked_of, tree_form, tree_not_free}
 
 -- no line is in the empty gazetteer
 no_line : (date : ℕ) (table : Table) (line : List ℕ) → Contains (lines_in (dated empty date) table) line → ⊥
@@ -60,7 +61,7 @@ none_indexed date bytes = record {
 
 -- the chain of free pages before any was taken
 pub none_taken : (v : PagesView) → v.free ≡ 0 → HasChain v
-none_taken v is = record { frees = []; first = sym is; chain = tt }
+none_taken v is = record { frees = []; chain = is }
 
 module _ (old new : PagesView) (root : Root) (fresh_is : old.fresh ≡ 1) (free_is : old.free ≡ 0) (stands : IsTreeOf new (tree_in root) []) (trades : Trades (λ n. ⊥) (OfTree new.page (tree_in root)) old new) (no_heap : root.heap ≡ 0) where
   abbrev frees : List ℕ
@@ -74,11 +75,8 @@ module _ (old new : PagesView) (root : Root) (fresh_is : old.fresh ≡ 1) (free_
   a_use page (inl of) = (tree, of)
   a_use page (inr is_free) = (free, contains_of frees page (in_chain new page stands.chain is_free))
 
-  chain_is : IsFreeChain new new.free frees
-  chain_is = chain_of_tree new new.free frees stands.chain.first stands.chain.chain
-
   apart_uses : (page : ℕ) → OfTree new.page (tree_in root) page → Contains frees page → ⊥
-  apart_uses page of has = tree_not_free page (new.page page) (tree_form new (tree_in root) [] page stands of) (chain_form new stands.chain page (among_of frees page has))
+  apart_uses page of has = tree_not_free page (new.page page) (tree_form new (tree_in root) [] page stands of) (on_chain new new.free page frees stands.chain.chain (among_of frees page has))
 
   one_use : (page : ℕ) (one other : Use) → IsFor new.page (ends_of new root) (root.heap ∷ []) [] frees one page → IsFor new.page (ends_of new root) (root.heap ∷ []) [] frees other page → one ≡ other
   one_use page slots other is also = absurd (no_slots page is)
@@ -96,12 +94,12 @@ module _ (old new : PagesView) (root : Root) (fresh_is : old.fresh ≡ 1) (free_
   in_it page tree of = let taken = stands.lies page of in let start = taken.start in (omega (arith, start), taken.end)
   in_it page slots has = absurd (no_slots page has)
   in_it page (chain place) has = absurd (contained_none place has.0)
-  in_it page free has = let low = chain_low new new.free frees chain_is page (among_of frees page has) in (low.0, low.1)
+  in_it page free has = in_use_of new new.free frees page stands.chain.chain (among_of frees page has)
 
   pub used_once : AreUsedOnce new.page (ends_of new root) (root.heap ∷ []) []
   used_once = record {
     frees = frees;
-    free_chain = linked_of new new.free frees chain_is;
+    free_chain = linked_of new new.free frees stands.chain.chain;
     used = λ page from below. a_use page (trades.all page (inr (omega (arith, from, fresh_is), below)));
     once = one_use;
     in_range = in_it;

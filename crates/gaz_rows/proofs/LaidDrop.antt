@@ -19,7 +19,7 @@ use Rattle.gaz_heap.proofs.StoredPuts.{the_page, no_chain}
 use Rattle.gaz_together.proofs.Keeps.{tree_after_drop}
 use Rattle.gaz_rows.specs.Stands.{Use, tree, slots, chain, free, HasSlots, IsFor}
 use Rattle.gaz_rows.specs.Laid.{IsLaid, LaidWithout, ends_of, tree_in, all_but, AfterRecordDropped}
-use Rattle.gaz_rows.proofs.LaidForms.{slot_form, chain_has, contains_of, among_of}
+use Rattle.gaz_rows.proofs.LaidForms.{slot_form, contains_of, among_of}
 use Rattle.gaz_rows.proofs.LaidParts.{Parts, laid_of, free_of, apart_of, low_of, heap_of, records_of, place_form, place_not_tree, more_slots}
 use Rattle.gaz_rows.proofs.LaidSlots.{among_all, among_rest, used_has, used_small, used_or_none, used_back, slot_at, near_place, is_used_by}
 use Rattle.gaz_rows.proofs.LaidRoom.{room_stays}
@@ -154,7 +154,7 @@ module _ (old new : PagesView) (root : Root) (pairs : List Pair) (current : ℕ)
     laid = laid_of new root pairs kept (all_but place places) parts;
     same = λ other has. let was = among_all place places other has in (still other was.0 was.1).holds.at ∙ sym (laid.held other was.0).1.at;
     room = room_stays old new laid.tree.chain drops.fresh
-        (λ then n among. in_chain new n then (record { chain = chain_has new drops.after drops.heap.chain; among = drops.more n among }));
+        (λ then n among. in_chain new n then (record { chain = record { frees = drops.after; chain = drops.heap.chain }; among = drops.more n among }));
   }
 
 pub after_record_dropped : AfterRecordDropped

@@ -3,6 +3,7 @@ use Rattle.std.proofs.Common.{◌≡◌, ◌≢◌, ◌≤◌, ◌-◌, ◌^◌,
 use Rattle.std.specs.Prelude.{IsSome, Bool, slice_index, ◌==◌, ◌&&◌, Contains}
 use Rattle.std.proofs.lemmas.Bool.{cases_Bool, cases_lt, ne_eqb}
 use Rattle.gaz_page.specs.Free.{free_link}
+use Rattle.gaz_page.specs.declared.tree_root.Root.{Root}
 use Rattle.gaz_page.specs.Pages.{PagesView}
 use Rattle.gaz_page.specs.Chains.{Among, InUse, IsFreeChain}
 use Rattle.gaz_leaf.specs.declared.kind.Kind.{Kind}
@@ -16,14 +17,13 @@ use Rattle.gaz_slots.proofs.PageKinds.{free_not_record, free_not_overflow, overf
 use Rattle.gaz_slots.proofs.Recorded.{unformed}
 use Rattle.gaz_tree.specs.declared.tree.Tree.{Tree}
 use Rattle.gaz_tree.specs.Tree.{kind_at, Reaches}
-use Rattle.gaz_tree.specs.Put.{first_of, IsChain, HasChain}
 use Rattle.gaz_tree.specs.Stands.{Stands as IsTreeOf, OfTree}
-use Rattle.gaz_tree.proofs.Chains.{on_chain}
 use Rattle.gaz_tree.proofs.Changed.{form_not_free, head_form, lower}
 use Rattle.gaz_heap.specs.Place.{page_of, slot_of, is_chain, record_at}
 use Rattle.gaz_heap.proofs.Holds.{record_slot, far, nothing}
 use Rattle.gaz_keys.proofs.Tags.{contained, contained_none}
-use Rattle.gaz_rows.specs.Stands.{Use, tree, slots, chain, free, IsFreeChain as IsLinked}
+use Rattle.gaz_rows.specs.Stands.{Use, tree, slots, chain, free, AreUsedOnce, IsFreeChain as IsLinked}
+use Rattle.gaz_rows.specs.Laid.{ends_of}
 use Rattle.gaz_rows.proofs.Members.{head_is_in, tail_is_in}
 
 -- ---- two words for what is in a list
@@ -39,22 +39,8 @@ contains_of (x ∷ xs) n (inr more) = tail_is_in x xs n (contains_of xs n more)
 
 -- ---- the chain of free pages
 
--- the chain that a tree supposes
-pub chain_of_tree : (v : PagesView) (first : ℕ) (ns : List ℕ) → first_of ns ≡ first → IsChain v.page v.fresh ns → IsFreeChain v first ns
-chain_of_tree v first [] is c = sym is
-chain_of_tree v first (n ∷ ns) is c = (sym is, (omega (arith, c.0), c.1), (first_of ns, c.2, chain_of_tree v (first_of ns) ns refl c.3))
-
-pub tree_chain : (v : PagesView) (first : ℕ) (ns : List ℕ) → IsFreeChain v first ns → (first_of ns ≡ first) × IsChain v.page v.fresh ns
-tree_chain v first [] c = (sym c, tt)
-tree_chain v first (n ∷ ns) c =
-    let more = tree_chain v c.2.0 ns c.2.2 in
-    (sym c.0, (omega (arith, c.1.0), c.1.1, c.2.1 ∙ ap (λ (k : ℕ). Some k) (sym more.0), more.1))
-
-abbrev pub chain_has : (v : PagesView) (ns : List ℕ) → IsFreeChain v v.free ns → HasChain v
-chain_has v ns c = record { frees = ns; first = (tree_chain v v.free ns c).0; chain = (tree_chain v v.free ns c).1 }
-
 -- linked pages that were taken once are such a chain
-pub chain_linked : (v : PagesView) (first : ℕ) (ns : List ℕ) → IsLinked v.page first ns → ((n : ℕ) → Among ns n → InUse v n) → IsFreeChain v first ns
+chain_linked : (v : PagesView) (first : ℕ) (ns : List ℕ) → IsLinked v.page first ns → ((n : ℕ) → Among ns n → InUse v n) → IsFreeChain v first ns
 chain_linked v first [] is low = is
 chain_linked v first (n ∷ ns) is low = (is.0, low n (inl refl), (is.1.0, is.1.1, chain_linked v is.1.0 ns is.1.2 (λ m i. low m (inr i))))
 
@@ -62,14 +48,9 @@ pub linked_of : (v : PagesView) (first : ℕ) (ns : List ℕ) → IsFreeChain v 
 linked_of v first [] c = c
 linked_of v first (n ∷ ns) c = (c.0, (c.2.0, c.2.1, linked_of v c.2.0 ns c.2.2))
 
-pub chain_low : (v : PagesView) (first : ℕ) (ns : List ℕ) → IsFreeChain v first ns → (n : ℕ) → Among ns n → InUse v n
-chain_low v first [] c n i = absurd i
-chain_low v first (m ∷ ns) c n (inl is) = subst (InUse v) (sym is) c.1
-chain_low v first (m ∷ ns) c n (inr i) = chain_low v c.2.0 ns c.2.2 n i
-
--- free pages are free ones in form
-pub chain_form : (v : PagesView) (linked : HasChain v) (n : ℕ) → Among linked.frees n → IsSome (free_link n (v.page n))
-chain_form v linked n among = on_chain v.page v.fresh n linked.frees linked.chain among
+-- the free pages of laid pages
+pub free_chain_of : (v : PagesView) (root : Root) (kept places : List ℕ) (once : AreUsedOnce v.page (ends_of v root) kept places) → IsFreeChain v v.free once.frees
+free_chain_of v root kept places once = chain_linked v v.free once.frees once.free_chain (λ n among. once.in_range n free (contains_of once.frees n among))
 
 -- ---- forms
 

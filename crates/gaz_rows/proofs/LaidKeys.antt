@@ -14,7 +14,7 @@ use Rattle.gaz_heap.specs.Facts.{StillHolds}
 use Rattle.gaz_together.proofs.Keeps.{record_after_key}
 use Rattle.gaz_rows.specs.Stands.{Use, tree, slots, chain, free, HasSlots, IsFor}
 use Rattle.gaz_rows.specs.Laid.{IsLaid, SameRecords, ends_of, tree_in, AfterKeyPut, AfterKeyRemoved}
-use Rattle.gaz_rows.proofs.LaidForms.{tree_form, tree_not_slots, tree_not_free, free_not_slots, chain_of_tree, contains_of}
+use Rattle.gaz_rows.proofs.LaidForms.{tree_form, tree_not_slots, tree_not_free, free_not_slots, contains_of}
 use Rattle.gaz_rows.proofs.LaidParts.{Parts, laid_of, free_of, free_form, apart_of, low_of}
 use Rattle.gaz_rows.proofs.LaidRoom.{room_stays}
 
@@ -52,7 +52,7 @@ module _ (old new : PagesView) (root now : Root) (pairs more : List Pair) (kept 
     tree_is = after;
     held = λ place has. let s = still place has in (s.0, s.1.holds);
     frees = after.chain.frees;
-    chain_is = chain_of_tree new new.free after.chain.frees after.chain.first after.chain.chain;
+    chain_is = after.chain.chain;
     used = λ n some below. elim (cases_lt n old.fresh) [
       | inl low ↦ (let was = laid.used_once.used n some low in used_as was.0 n was.1)
       | inr late ↦ moved n (inr (late, below))

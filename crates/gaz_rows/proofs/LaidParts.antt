@@ -5,20 +5,22 @@ use Rattle.std.proofs.lemmas.Bool.{cases_Bool, cases_eq, eq-eqb}
 use Rattle.gaz_page.specs.declared.tree_root.Root.{Root}
 use Rattle.gaz_page.specs.Pages.{PagesView}
 use Rattle.gaz_page.specs.Chains.{Among, InUse, IsFreeChain}
+use Rattle.gaz_page.proofs.FreeChains.{chain_one}
 use Rattle.gaz_leaf.specs.Node.{Pair}
 use Rattle.gaz_slots.specs.RecordPage.{is_record_page, is_used}
 use Rattle.gaz_slots.specs.Overflow.{is_overflow_page}
 use Rattle.gaz_tree.specs.Tree.{Reaches}
 use Rattle.gaz_tree.specs.Stands.{Stands as IsTreeOf, OfTree}
-use Rattle.gaz_tree.proofs.Trading.{in_chain}
+use Rattle.gaz_tree.proofs.Chains.{on_chain}
 use Rattle.gaz_heap.specs.Chain.{chain_pages}
 use Rattle.gaz_heap.specs.Place.{pages_of, page_of, slot_of, is_chain}
 use Rattle.gaz_heap.specs.Facts.{Holds, ShareNone, IsHeap, IsForRecords}
 use Rattle.gaz_heap.proofs.Holds.{each_formed, chain_of, pages_chain, pages_slot}
 use Rattle.gaz_heap.proofs.LongPuts.{each_at}
+use Rattle.gaz_heap.proofs.NewPuts.{in_use_of}
 use Rattle.gaz_rows.specs.Stands.{Use, tree, slots, chain, free, HasSlots, IsFor}
 use Rattle.gaz_rows.specs.Laid.{IsLaid, ends_of, tree_in}
-use Rattle.gaz_rows.proofs.LaidForms.{HasForm, OnePlace, same_use, tree_not_slots, tree_not_chain, tree_form, slot_form, chain_low, chain_form, chain_linked, linked_of, chain_of_tree, chain_has, among_of, contains_of}
+use Rattle.gaz_rows.proofs.LaidForms.{HasForm, OnePlace, same_use, tree_not_slots, tree_not_chain, tree_form, slot_form, linked_of, free_chain_of, among_of, contains_of}
 
 pub chain_page_form : (v : PagesView) (place : ℕ) (bytes : List ℕ) (n : ℕ) → IsTrue (is_chain place) → Holds v place bytes → Among (pages_of v.page place) n → HasForm (chain place) n (v.page n)
 chain_page_form v place bytes n is holds among =
@@ -45,7 +47,7 @@ module _ (v : PagesView) (root : Root) (pairs : List Pair) (kept places : List �
   form_of tree n is = tree_form v (tree_in root) pairs n p.tree_is is
   form_of slots n is = p.in_form n is
   form_of (chain place) n is = let held = p.held place is.0 in chain_page_form v place held.0 n is.1 held.1 (among_of (pages_of v.page place) n is.2)
-  form_of free n is = chain_form v (chain_has v p.frees p.chain_is) n (among_of p.frees n is)
+  form_of free n is = on_chain v v.free n p.frees p.chain_is (among_of p.frees n is)
 
   one_place : (one other : Use) (n : ℕ) → IsFor v.page (ends_of v root) kept places p.frees one n → IsFor v.page (ends_of v root) kept places p.frees other n → OnePlace one other
   one_place (chain a) (chain b) n is also =
@@ -64,7 +66,7 @@ module _ (v : PagesView) (root : Root) (pairs : List Pair) (kept places : List �
   in_range n tree is = let low = p.tree_is.lies n is in (omega (arith, low.start), low.end)
   in_range n slots is = p.low n is
   in_range n (chain place) is = let held = p.held place is.0 in each_at (InUse v) (pages_of v.page place) n held.1.pages (among_of (pages_of v.page place) n is.2)
-  in_range n free is = chain_low v v.free p.frees p.chain_is n (among_of p.frees n is)
+  in_range n free is = in_use_of v v.free p.frees n p.chain_is (among_of p.frees n is)
 
   pub laid_of : IsLaid v root pairs kept places
   laid_of = record {
@@ -134,15 +136,12 @@ more_for pages root kept more places others frees keep place (chain p) n is = (p
 more_for pages root kept more places others frees keep place free n is = is
 
 module _ (v : PagesView) (root : Root) (pairs : List Pair) (kept places : List ℕ) (laid : IsLaid v root pairs kept places) where
-  pub free_chain_of : IsFreeChain v v.free laid.used_once.frees
-  free_chain_of = chain_linked v v.free laid.used_once.frees laid.used_once.free_chain (λ n among. laid.used_once.in_range n free (contains_of laid.used_once.frees n among))
-
   -- the free pages are those of which the tree knows
   pub free_of : (n : ℕ) → Contains laid.used_once.frees n → Among laid.tree.chain.frees n
-  free_of n has = in_chain v n laid.tree.chain (record { chain = chain_has v laid.used_once.frees free_chain_of; among = among_of laid.used_once.frees n has })
+  free_of n has = subst (λ (l : List ℕ). Among l n) (chain_one v v.free laid.used_once.frees laid.tree.chain.frees (free_chain_of v root kept places laid.used_once) laid.tree.chain.chain) (among_of laid.used_once.frees n has)
 
   pub free_form : (n : ℕ) → Among laid.tree.chain.frees n → HasForm free n (v.page n)
-  free_form n among = chain_form v laid.tree.chain n among
+  free_form n among = on_chain v v.free n laid.tree.chain.frees laid.tree.chain.chain among
 
   pub apart_of : (one other : ℕ) → Contains places one → Contains places other → one ≢ other → ShareNone v one other
   apart_of one other a b differ is also n here there = absurd (differ (by (laid.used_once.once n (chain one) (chain other) (a, is, contains_of (pages_of v.page one) n here) (b, also, contains_of (pages_of v.page other) n there))))
@@ -156,7 +155,7 @@ module _ (v : PagesView) (root : Root) (pairs : List Pair) (kept places : List �
   pub heap_of : (current : ℕ) → (current ≡ 0) ⊎ Contains kept current → IsHeap v current laid.tree.chain.frees
   heap_of current is = record {
     least = let top = laid.tree.lies root.top (itself v.page (root.height - 1) root.top) in omega (arith, top.start, top.end);
-    chain = chain_of_tree v v.free laid.tree.chain.frees laid.tree.chain.first laid.tree.chain.chain;
+    chain = laid.tree.chain.chain;
     page = elim is [
       | inl none_ ↦ inl none_
       | inr has ↦ elim (cases_eq current 0) [ inl none_ ↦ inl none_ | inr some ↦ inr (low_of current (inr (has, some))) ]

@@ -10,7 +10,7 @@ use Rattle.gaz_slots.specs.RecordPage.{is_record_page, is_used}
 use Rattle.gaz_slots.proofs.PageKinds.{overflow_not_record}
 use Rattle.gaz_tree.specs.Stands.{OfTree}
 use Rattle.gaz_tree.proofs.Changed.{reach_on}
-use Rattle.gaz_tree.proofs.Chains.{left_one}
+use Rattle.gaz_tree.proofs.Chains.{left_one, on_chain}
 use Rattle.gaz_heap.specs.Heap.{HasUsed}
 use Rattle.gaz_heap.specs.Place.{pages_of, page_of, is_chain, record_at}
 use Rattle.gaz_heap.specs.Facts.{Holds, StillHolds, ShareNone, Puts}
@@ -21,7 +21,7 @@ use Rattle.gaz_keys.proofs.Tags.{contained, contained_none}
 use Rattle.gaz_together.proofs.Keeps.{tree_after_put}
 use Rattle.gaz_rows.specs.Stands.{Use, tree, slots, chain, free, HasSlots, IsFor}
 use Rattle.gaz_rows.specs.Laid.{IsLaid, LaidWith, HasRoom, ends_of, tree_in, AfterRecordPut, AfterRecordPutAlone}
-use Rattle.gaz_rows.proofs.LaidForms.{slot_form, chain_form, chain_has, contains_of, among_of, tree_form, tree_not_slots, tree_not_free, free_not_slots}
+use Rattle.gaz_rows.proofs.LaidForms.{slot_form, contains_of, among_of, tree_form, tree_not_slots, tree_not_free, free_not_slots}
 use Rattle.gaz_rows.proofs.LaidParts.{Parts, laid_of, free_of, free_form, apart_of, low_of, heap_of, records_of, place_form, chain_page_form, more_slots, slots_at}
 use Rattle.gaz_rows.proofs.LaidSlots.{used_has, used_small, slot_small, used_back, slot_at, near_place, is_used_by, used_by, used_if}
 use Rattle.gaz_rows.proofs.LaidKept.{IsKeptBy, fewer_kept}
@@ -141,7 +141,7 @@ module _ (old new : PagesView) (root : Root) (pairs : List Pair) (current now : 
             let had = had_slots n low.0 below (subst (λ (p : List ℕ). is_record_page n p ≡ true) same form) in
             tail_is_in place places (n * 65536 + slot) (laid.used_once.no_more n slot had (subst (λ (p : List ℕ). IsTrue (is_used p slot)) same used))
         | inr past ↦ elim (puts.taken n (inr (past, low.1))) [
-          | inl free_ ↦ absurd (free_not_slots n (new.page n) (chain_form new (chain_has new puts.left puts.heap.chain) n free_) form)
+          | inl free_ ↦ absurd (free_not_slots n (new.page n) (on_chain new new.free n puts.left puts.heap.chain free_) form)
           | inr here ↦ absurd (away here)
         ]
       ]
@@ -240,7 +240,7 @@ module _ (old new : PagesView) (root : Root) (pairs : List Pair) (current now : 
   room_left : (n : ℕ) → HasRoom (n + 17) old → HasRoom n new
   room_left n room then =
       let least = room laid.tree.chain in
-      let same = left_one new (chain_has new puts.left puts.heap.chain) then in
+      let same = left_one new (record { frees = puts.left; chain = puts.heap.chain }) then in
       omega (arith, least, puts.takes, puts.grows, same)
 
   pub was_put : LaidWith old new root pairs now kept places bytes place

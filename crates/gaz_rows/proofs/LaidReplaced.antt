@@ -9,14 +9,14 @@ use Rattle.gaz_leaf.specs.Node.{Pair}
 use Rattle.gaz_slots.specs.RecordPage.{is_record_page, is_used}
 use Rattle.gaz_tree.specs.Stands.{OfTree}
 use Rattle.gaz_tree.proofs.Changed.{reach_on}
-use Rattle.gaz_tree.proofs.Trading.{in_chain}
+use Rattle.gaz_tree.proofs.Trading.{in_chain, chain_same, few_same}
 use Rattle.gaz_heap.specs.Place.{pages_of, page_of, is_chain}
 use Rattle.gaz_heap.specs.Facts.{Holds, StillHolds, Replaces}
 use Rattle.gaz_heap.proofs.Holds.{pages_slot}
 use Rattle.gaz_together.proofs.Keeps.{tree_after_replace}
 use Rattle.gaz_rows.specs.Stands.{Use, tree, slots, chain, free, HasSlots, IsFor}
 use Rattle.gaz_rows.specs.Laid.{IsLaid, LaidAgain, HasRoom, ends_of, tree_in, AfterReplaced}
-use Rattle.gaz_rows.proofs.LaidForms.{chain_has, contains_of}
+use Rattle.gaz_rows.proofs.LaidForms.{contains_of}
 use Rattle.gaz_rows.proofs.LaidParts.{Parts, laid_of, free_of, apart_of, low_of, heap_of, place_not_tree}
 use Rattle.gaz_rows.proofs.LaidSlots.{among_all, used_small, used_back, near_place}
 use Rattle.gaz_rows.proofs.LaidRoom.{room_stays}
@@ -103,7 +103,7 @@ module _ (old new : PagesView) (root : Root) (pairs : List Pair) (kept places : 
     laid = laid_of new root pairs kept places parts;
     same = λ other has. replaces.rest other (among_all place places other has).1;
     room = room_stays old new laid.tree.chain replaces.fresh
-        (λ then n among. in_chain new n then (record { chain = chain_has new laid.tree.chain.frees chain_now; among = among }));
+        (λ then n among. in_chain new n then (record { chain = record { frees = laid.tree.chain.frees; chain = chain_now }; among = among }));
   }
 
 pub after_replaced : AfterReplaced
@@ -127,7 +127,7 @@ module _ (old new : PagesView) (same : SamePages old new) where
         tree = record {
           top = moved.tree.top;
           lies = moved.tree.lies;
-          chain = record { frees = moved.tree.chain.frees; first = moved.tree.chain.first; chain = moved.tree.chain.chain };
+          chain = chain_same old new same laid.tree.chain;
         };
         held = λ place has. let its = moved.held place has in (its.0, record { at = its.1.at; pages = its.1.pages });
         used_once = moved.used_once;
@@ -135,5 +135,6 @@ module _ (old new : PagesView) (same : SamePages old new) where
 
   pub room_same : (n : ℕ) → HasRoom n old → HasRoom n new
   room_same n room then =
-      let moved : HasRoom n as_new = subst (HasRoom n) is_same room in
-      moved (record { frees = then.frees; first = then.first; chain = then.chain })
+      let before = chain_same new old (record { pages = sym same.pages; free = sym same.free; fresh = sym same.fresh }) then in
+      let least = room before in
+      omega (arith, least, few_same 0 old new same before then)

@@ -10,7 +10,7 @@ use Rattle.gaz_page.specs.Chains.{Among, IsFreeChain}
 use Rattle.gaz_page.proofs.FreeChains.{not_again}
 use Rattle.gaz_tree.specs.Put.{HasChain}
 use Rattle.gaz_rows.specs.Laid.{HasRoom}
-use Rattle.gaz_rows.proofs.LaidForms.{chain_of_tree, among_of, contains_of}
+use Rattle.gaz_rows.proofs.LaidForms.{among_of, contains_of}
 
 away : (n : ℕ) (ns : List ℕ) → (Among ns n → ⊥) → AllByRecursion (λ m. eqb n m ≡ false) ns
 away n [] out = tt
@@ -30,5 +30,5 @@ no_longer xs ys distinct within =
 pub room_stays : (old new : PagesView) (before : HasChain old) → new.fresh ≡ old.fresh → ((after : HasChain new) (n : ℕ) → Among before.frees n → Among after.frees n) → (n : ℕ) → HasRoom n old → HasRoom n new
 room_stays old new before fresh within n room after =
     let least = room before in
-    let no_fewer = no_longer before.frees after.frees (chain_distinct old old.free before.frees (chain_of_tree old old.free before.frees before.first before.chain)) (within after) in
+    let no_fewer = no_longer before.frees after.frees (chain_distinct old old.free before.frees before.chain) (within after) in
     omega (arith, least, no_fewer, fresh)

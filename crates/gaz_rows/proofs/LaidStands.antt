@@ -9,7 +9,6 @@ use Rattle.gaz_page.specs.Pages.{PagesView}
 use Rattle.gaz_page.specs.Chains.{Each, InUse}
 use Rattle.gaz_leaf.specs.Node.{Pair}
 use Rattle.gaz_tree.specs.Pairs.{Within, lookup}
-use Rattle.gaz_tree.specs.Put.{HasChain}
 use Rattle.gaz_tree.proofs.Lists.{lookup-same, lookup-other}
 use Rattle.gaz_tree.proofs.Fans.{head_within}
 use Rattle.gaz_heap.specs.Place.{pages_of, page_of, is_chain, record_at}
@@ -18,12 +17,12 @@ use Rattle.gaz_heap.proofs.LongPuts.{each_from}
 use Rattle.gaz_keys.specs.Parts.{has_place, tag_of}
 use Rattle.gaz_keys.proofs.Tags.{contained, contained_none, tag_at, tag_has_place}
 use Rattle.gaz_rows.specs.Index.{line_key}
-use Rattle.gaz_rows.specs.Stands.{tree, slots, chain, free, StandsForBut, value_in, places_in, tag_in}
+use Rattle.gaz_rows.specs.Stands.{tree, slots, chain, StandsForBut, value_in, places_in, tag_in}
 use Rattle.gaz_rows.specs.Laid.{IsLaid, ends_of, AreLaid}
 use Rattle.gaz_rows.proofs.Counting.{map_from, passed}
 use Rattle.gaz_rows.proofs.Got.{value_is}
 use Rattle.gaz_rows.proofs.RoomPairs.{placed, place_of_line}
-use Rattle.gaz_rows.proofs.LaidForms.{chain_linked, tree_chain, contains_of}
+use Rattle.gaz_rows.proofs.LaidForms.{free_chain_of, contains_of}
 use Rattle.gaz_rows.proofs.LaidParts.{slots_at}
 
 -- the value of a pair is found at its key
@@ -64,18 +63,12 @@ module _ (waiting : List (List ℕ)) (gaz : Gazetteer) (v : PagesView) (root : R
         subst (Each (InUse v)) (sym (pages_slot v.page place slotted)) (stands.used_once.in_range (page_of place) slots (slots_at (root.heap ∷ []) (places_in stands.pairs) place slotted has), tt)
   ]
 
-  chain_there : HasChain v
-  chain_there =
-      let frees = stands.used_once.frees in
-      let is = tree_chain v v.free frees (chain_linked v v.free frees stands.used_once.free_chain (λ n among. stands.used_once.in_range n free (contains_of frees n among))) in
-      record { frees = frees; first = is.0; chain = is.1 }
-
   pub are_laid_so : IsLaid v root stands.pairs (root.heap ∷ []) (places_in stands.pairs)
   are_laid_so = record {
     tree = record {
       top = stands.tree;
       lies = λ n reach. let low = stands.used_once.in_range n tree reach in record { start = omega (arith, low.0); end = low.1 };
-      chain = chain_there;
+      chain = record { frees = stands.used_once.frees; chain = free_chain_of v root (root.heap ∷ []) (places_in stands.pairs) stands.used_once };
     };
     held = λ place has. let at = record_there place has in (at.0, record { at = at.1; pages = its_pages place has });
     used_once = stands.used_once;

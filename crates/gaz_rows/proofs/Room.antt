@@ -7,6 +7,7 @@ use Rattle.std.proofs.lemmas.List.Elements.{Contains-append_left, Contains-appen
 use Rattle.gaz_plain.specs.Gazetteer.{Gazetteer}
 use Rattle.gaz_page.specs.declared.tree_root.Root.{Root}
 use Rattle.gaz_page.specs.Pages.{PagesView}
+use Rattle.gaz_page.proofs.FreeChains.{chain_unique}
 use Rattle.gaz_heap.specs.Place.{record_at, page_of, pages_of}
 use Rattle.gaz_tree.specs.Pairs.{Within}
 use Rattle.gaz_tree.specs.Put.{HasChain}
@@ -16,7 +17,8 @@ use Rattle.gaz_rows.specs.Laid.{AreLeft, ends_of, HasRoom}
 use Rattle.gaz_rows.proofs.Counting.{as_long, flat_contains}
 use Rattle.gaz_rows.proofs.Members.{head_is_in, tail_is_in}
 use Rattle.gaz_rows.proofs.RoomKeys.{pairs_few, places_few}
-use Rattle.gaz_rows.proofs.RoomPages.{tree_list, tree_has, top_full, slot_list, slots_have, chain_list, chains_few, chain_no_longer}
+use Rattle.gaz_rows.proofs.RoomPages.{tree_list, tree_has, top_full, slot_list, slots_have, chain_list, chains_few}
+use Rattle.gaz_rows.proofs.LaidForms.{free_chain_of}
 
 module _ (waiting : List (List ℕ)) (gaz : Gazetteer) (v : PagesView) (root : Root) (stands : StandsForBut waiting gaz v.page (ends_of v root)) where
   abbrev places : List ℕ
@@ -82,10 +84,8 @@ module _ (waiting : List (List ℕ)) (gaz : Gazetteer) (v : PagesView) (root : R
       omega (arith, full, ap length stands.tree.holds, ap (λ l. length (tree_list v.page l root.top)) level)
 
   -- whatever chain of free pages is looked at
-  frees_few : (chain : HasChain v) → length frees ≤ length chain.frees
-  frees_few chain =
-      chain_no_longer v.page v.fresh v.free chain.frees frees chain.chain chain.first stands.used_once.free_chain
-      (λ page has. (stands.used_once.in_range page for_free has).0)
+  frees_as_long : (chain : HasChain v) → length frees ≡ length chain.frees
+  frees_as_long chain = chain_unique v v.free frees chain.frees (free_chain_of v root (root.heap ∷ []) places stands.used_once) chain.chain
 
   -- so few pairs that no tree of height 6 is full
   pub tree_not_full : length stands.pairs < 2 ^ 30
@@ -101,7 +101,7 @@ module _ (waiting : List (List ℕ)) (gaz : Gazetteer) (v : PagesView) (root : R
         arith,
         all_used,
         few_tree,
-        frees_few chain,
+        frees_as_long chain,
         pairs_few waiting stands.slots gaz stands.pairs (record_at v.page) stands.indexed rising stands.is_gazetteer,
         places_few waiting stands.slots gaz stands.pairs (record_at v.page) stands.indexed rising stands.is_gazetteer,
       )

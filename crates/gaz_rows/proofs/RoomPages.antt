@@ -1,20 +1,17 @@
 -- The pages that a tree, records and free pages take, as lists.
-use Rattle.std.proofs.Common.{◌≡◌, ◌≤◌, ◌+◌, ◌*◌, ℕ, zero, suc, Bool, true, false, List, [], ◌∷◌, ◌++◌, length, map, refl, sym, ◌∙◌, ap, arith, subst, inl, inr, length-append, Some}
+use Rattle.std.proofs.Common.{◌≡◌, ◌≤◌, ◌+◌, ◌*◌, ℕ, zero, suc, Bool, true, false, List, [], ◌∷◌, ◌++◌, length, map, refl, sym, ap, arith, subst, inl, inr, length-append}
 use Rattle.std.specs.Prelude.{Contains, if◌then◌else◌, ◌==◌}
 use Rattle.std.specs.List.{flat_map}
 use Rattle.std.proofs.lemmas.List.Elements.{Contains-append_left, Contains-append_right}
-use Rattle.gaz_page.specs.Free.{free_link}
 use Rattle.gaz_leaf.specs.declared.kind.Kind.TheVariants.{Leaf, Inner}
 use Rattle.gaz_leaf.specs.Node.{Pair}
 use Rattle.gaz_slots.specs.Overflow.{next_in}
 use Rattle.gaz_heap.specs.Chain.{chain_pages}
 use Rattle.gaz_heap.specs.Place.{page_of, is_chain, pages_of}
-use Rattle.gaz_tree.specs.Put.{first_of, IsChain}
 use Rattle.gaz_tree.specs.Tree.{children_of, from_low, next_key, IsFan, IsHead, IsTree, tree_pairs, SomeEntry, Reaches}
 use Rattle.gaz_tree.proofs.Apart.{length_pairs}
-use Rattle.gaz_tree.proofs.Chains.{same_link}
 use Rattle.gaz_tree.proofs.Fans.{fan_pairs, fan_from_low}
-use Rattle.gaz_rows.specs.Stands.{IsFreeChain, HasSlots}
+use Rattle.gaz_rows.specs.Stands.{HasSlots}
 use Rattle.gaz_rows.proofs.Counting.{map_contains, flat_most}
 use Rattle.gaz_rows.proofs.Members.{head_is_in, tail_is_in}
 
@@ -126,16 +123,3 @@ pages_few pages place = by (is_chain place)
 
 pub chains_few : (pages : ℕ → List ℕ) (places : List ℕ) → length (chain_list pages places) ≤ 17 * length places
 chains_few pages places = flat_most 17 (pages_of pages) places (pages_few pages)
-
--- ---- free pages
-
--- of two chains of free pages from one page, the second is no longer than the first
-pub chain_no_longer : (pages : ℕ → List ℕ) (fresh first : ℕ) (ns ms : List ℕ) → IsChain pages fresh ns → first_of ns ≡ first → IsFreeChain pages first ms
-    → ((m : ℕ) → Contains ms m → 1 ≤ m) → length ms ≤ length ns
-chain_no_longer pages fresh first ns [] chain is free each = omega arith
-chain_no_longer pages fresh first [] (m ∷ ms) chain is free each = let same = free.0 in absurd (omega (arith, is, same, each m (head_is_in m ms)))
-chain_no_longer pages fresh first (n ∷ ns) (m ∷ ms) chain is free each =
-    let same : m ≡ n = sym free.0 ∙ sym is in
-    let link = same_link (free_link n (pages n)) (first_of ns) free.1.0 chain.2 (subst (λ k. free_link k (pages k) ≡ Some free.1.0) same free.1.1) in
-    let behind = chain_no_longer pages fresh free.1.0 ns ms chain.3 link free.1.2 (λ k has. each k (tail_is_in m ms k has)) in
-    omega (arith, behind)

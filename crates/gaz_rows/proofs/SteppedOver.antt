@@ -9,7 +9,7 @@ use Rattle.gaz_num.specs.declared.words.Kind.TheVariants as kinds
 use Rattle.gaz_num.specs.declared.words.Table.TheVariants.{Codes}
 use Rattle.gaz_num.specs.declared.words.Reason.TheVariants.{Length}
 use Rattle.gaz_num.specs.Pieces.{column}
-use Rattle.gaz_num.specs.Check.{reason_against, key_in, line_limit, tests_of_text}
+use Rattle.gaz_num.specs.Check.{reason_against, key_in, line_limit, tests_of_text, first_failing}
 use Rattle.gaz_name.specs.Name.{first_bytes}
 use Rattle.gaz_page.specs.declared.tree_root.Root.{Root}
 use Rattle.gaz_page.specs.Pages.{PagesView, SamePages}
@@ -19,7 +19,7 @@ use Rattle.gaz_tree.specs.Pairs.{lookup}
 use Rattle.gaz_tree.specs.Tree.{IsTop}
 use Rattle.gaz_heap.specs.Place.{record_at}
 use Rattle.gaz_keys.specs.Keys.{code_key}
-use Rattle.gaz_keys.proofs.Fit.{passed}
+use Rattle.gaz_num.specs.declared.words.Reason.{Reason}
 use Rattle.gaz_rows.specs.declared.fault.StepFault.{StepFault}
 use Rattle.gaz_rows.specs.declared.fault.StepFault.TheVariants.{Malformed, Full, Failed, Damaged, Memory}
 use Rattle.gaz_rows.specs.declared.fault.AskFault.{AskFault}
@@ -36,10 +36,15 @@ use Rattle.gaz_rows.proofs.PairsStands.{meets_line}
 use Rattle.gaz_rows.proofs.ReindexedSlots.{slot_kept, slot_new, slots_agree}
 use Rattle.gaz_rows.proofs.SteppedStores.{laid_here, left_here, full_here, place_there, was_keyed, was_counted}
 
+-- a test that passed
+passed : (why : Reason) (b : Bool) (rest : List (Reason × Bool)) → first_failing ((why, b) ∷ rest) ≡ None → b ≡ true
+passed why true rest is = refl
+passed why false rest is = absurd (cc)
+
 -- A line that its check accepts has at most 65,535 bytes.
 pub short_line : (kind : Kind) (line : List ℕ) → reason_against kind line ≡ None → length line ≤ 65535
 unfolding reason_against
-short_line kind line is = leb-true (length line) line_limit (passed Length (nat_le (length line) line_limit) (tests_of_text kind line) is).0
+short_line kind line is = leb-true (length line) line_limit (passed Length (nat_le (length line) line_limit) (tests_of_text kind line) is)
 
 pub numbers_of : (kind : Kind) (line : List ℕ) → IsSome (key_in kind line) → (numbers : List ℕ) × (key_in kind line ≡ Some numbers)
 numbers_of kind line has = by (key_in kind line) refl has

@@ -9,9 +9,9 @@ use Rattle.gaz_page.specs.Pages.{PagesView, NotDamaged}
 use Rattle.gaz_leaf.specs.Node.{Pair, key_of}
 use Rattle.gaz_tree.specs.declared.tree.Tree.{Tree}
 use Rattle.gaz_tree.specs.Pairs.{put, without}
-use Rattle.gaz_tree.specs.Put.{Trades, Changes, TakesFew, IsSpent}
+use Rattle.gaz_tree.specs.Put.{Trades, Changes}
 use Rattle.gaz_tree.specs.Remove.{Returns}
-use Rattle.gaz_tree.specs.Stands.{Stands, OfTree, PutDamage, IsWithout}
+use Rattle.gaz_tree.specs.Stands.{Stands, OfTree, PutDamage, IsWith, IsWithout}
 use Rattle.gaz_tree.proofs.Lists.{length-put_most}
 use Rattle.gaz_rows.specs.Laid.{IsLaid, LaidBy, HasRoom, tree_in, SameRecords}
 use Rattle.gaz_rows.specs.Work.{TurnsPairs, IsSoundWith, put_zeros, without_all, missing_in}
@@ -27,12 +27,12 @@ module _ (old : PagesView) (root : Root) (tree : Tree) (same : tree_in root ≡ 
   has_tree = subst (λ t. Stands old t pairs) same laid.tree
 
   -- A pair is put.
-  pub turned_by_put : (new : PagesView) (now : Root) (p : Pair) → Stands new (tree_in now) (put p pairs)
-      → Trades (OfTree old.page tree) (OfTree new.page (tree_in now)) old new → Changes (OfTree old.page tree) old new → TakesFew 7 old new
-      → LaidBy 7 old new now (put p pairs) kept places
-  turned_by_put new now p stands trades changes takes =
-      after_key_put old new root now pairs (put p pairs) kept places laid stands
-      (subst (λ t. Trades (OfTree old.page t) (OfTree new.page (tree_in now)) old new) (sym same) trades) (subst (λ t. Changes (OfTree old.page t) old new) (sym same) changes) takes
+  pub turned_by_put : (new : PagesView) (now : Root) (p : Pair) → IsWith old new tree (tree_in now) p pairs → LaidBy 7 old new now (put p pairs) kept places
+  turned_by_put new now p is =
+      after_key_put old new root now pairs (put p pairs) kept places laid is.stands
+      (subst (λ t. Trades (OfTree old.page t) (OfTree new.page (tree_in now)) old new) (sym same) is.trades)
+      (subst (λ t. Changes (OfTree old.page t) old new) (sym same) is.others)
+      is.takes
 
   -- A key is taken out.
   pub turned_by_remove : (new : PagesView) (now : Root) (key : ℕ) (found : Bool) → IsWithout old new tree (tree_in now) key pairs found → LaidBy 0 old new now (without key pairs) kept places

@@ -19,4 +19,4 @@ returns-clause-turns g c told pairs kept places laid =
     let tree = has_tree v root c.tree-tree.result same pairs kept places laid in
     turned_by_put v root c.tree-tree.result same pairs kept places laid (g.P.Pages.view c.put.new.pages) (record root { top = c.put.new.self.top; height = c.put.new.self.height })
     (record { key = key_of c.args.key.now; value = c.args.value })
-    (c.in-Ok.ensures.put told pairs tree) (c.in-Ok.ensures.trades told pairs tree) (c.in-Ok.ensures.others told pairs tree) (c.in-Ok.ensures.takes told pairs tree)
+    (c.in-Ok.ensures.put told pairs tree)
