@@ -15,7 +15,7 @@ use Rattle.gaz_heap.proofs.Holds.{pages_chain, pages_slot}
 use Rattle.gaz_heap.proofs.Placing.{chain_place, slot_place}
 use Rattle.gaz_heap.proofs.Walks.{Walked, walked_damaged}
 
-pub chain_damage : (old now new : PagesView) (first page turn : ℕ) (fault : PageFault) → turn < 17 → Walked old now first page turn → DropsPiece page now new (Err fault) → DropDamage (chain_at 17 old.page first) (Err fault)
+pub chain_damage : (old now new : PagesView) (first page turn : ℕ) (fault : PageFault) → turn < 17 → Walked old now first page turn → DropsPiece page now new (Err fault) → DropDamage {T = Unit} (chain_at 17 old.page first) (Err fault)
 chain_damage old now new first page turn Failed low w d = tt
 chain_damage old now new first page turn Memory low w d = tt
 chain_damage old now new first page turn (Damaged damaged) low w d = walked_damaged old now first page turn low w d.1

@@ -2,7 +2,6 @@
 use Rattle.std.proofs.Common.{◌≡◌, ◌≢◌, ◌≤◌, ◌<◌, ◌+◌, ◌-◌, ℕ, zero, suc, true, false, List, [], ◌∷◌, length, refl, sym, ap, ◌∙◌, subst, arith, inl, inr, Some, None}
 use Rattle.std.specs.Prelude.{Option}
 use Rattle.std.proofs.lemmas.Bool.{cases_Bool, cases_lt, false_from_ne_true}
-use Rattle.gaz_page.specs.Free.{free_link}
 use Rattle.gaz_page.specs.Pages.{PagesView, Gives}
 use Rattle.gaz_slots.specs.RecordPage.{record_in, is_record_page}
 use Rattle.gaz_slots.specs.Overflow.{is_overflow_page, next_in}
@@ -13,7 +12,8 @@ use Rattle.gaz_heap.specs.Facts.{IsHeap, Holds, StillHolds, ShareNone, IsForReco
 use Rattle.gaz_slots.proofs.PageKinds.{overflow_not_record, free_not_record, free_not_overflow}
 use Rattle.gaz_slots.proofs.Recorded.{unformed}
 use Rattle.gaz_heap.proofs.Holds.{each_more, each_formed, far, record_slot, pages_slot, pages_chain, holds_still, nothing, none_at_0, step_of, ends, goes, pages_last, pages_more, chain_of, record_chain}
-use Rattle.gaz_heap.proofs.StoredPuts.{free_still, slot_equal}
+use Rattle.gaz_page.proofs.FreeChains.{free_still, free_in}
+use Rattle.gaz_heap.proofs.StoredPuts.{slot_equal}
 use Rattle.gaz_heap.proofs.Chain.{chain_unformed}
 use Rattle.gaz_heap.proofs.LongPuts.{each_at, each_from, chain_longer, among_or_not, first_page, first_of_more}
 
@@ -97,14 +97,6 @@ given_more old now new free whole left number d once form used g =
     }
 
 -- a free page is no record page, and no overflow page
-free_in : (v : PagesView) (first : ℕ) (free : List ℕ) (n : ℕ) → IsFreeChain v first free → Among free n → (link : ℕ) × (free_link n (v.page n) ≡ Some link)
-free_in v first [] n a among = absurd among
-free_in v first (m ∷ rest) n a among =
-    elim among [
-      | inl is ↦ (a.2.0, subst (λ (k : ℕ). free_link k (v.page k) ≡ Some a.2.0) (sym is) a.2.1)
-      | inr later ↦ free_in v a.2.0 rest n a.2.2 later
-    ]
-
 not_record : (number slot : ℕ) (page : List ℕ) → (is_record_page number page ≡ true → ⊥) → record_in number page slot ≡ None
 not_record number slot page no_ =
     elim (cases_Bool (is_record_page number page)) [
@@ -199,6 +191,7 @@ chain_drops old new free bytes place current w =
       more = w.gave.more;
       given = λ n among. elim (w.gave.given n among) [ inl was ↦ inl was | inr here ↦ inr (subst (λ (l : List ℕ). Among l n) (sym mine) here) ];
       emptied = λ n among away empty. after_all old new free bytes place current n w (subst (λ (l : List ℕ). Among l n) mine among);
+      whole = λ long n among. after_all old new free bytes place current n w (subst (λ (l : List ℕ). Among l n) mine among);
       stays = λ n out. w.gave.stays n (λ here. out (subst (λ (l : List ℕ). Among l n) (sym mine) here));
       fresh = w.gave.fresh;
       slots = λ other slotted differs. slots_still old new free bytes place current w other (false_from_ne_true (is_chain other) slotted);

@@ -9,6 +9,7 @@ pub mod NewPuts
 pub mod Changed
 pub mod LongPuts
 pub mod SlotDrops
+pub mod SlotReplaces
 pub mod ChainDrops
 pub mod Walks
 pub mod UsedUp

@@ -16,8 +16,8 @@ use Rattle.gaz_slots.proofs.Recorded.{unformed}
 use Rattle.gaz_heap.proofs.Holds.{each_formed, each_more, chain_same, record_slot, record_chain, far, pages_chain, holds_still, nothing, at_last, at_more, pages_last, pages_more, none_at_0, formed_first, ends, goes, step_of}
 use Rattle.gaz_slots.proofs.PieceForm.{length-piece}
 use Rattle.gaz_heap.proofs.Chain.{fits}
-use Rattle.gaz_heap.proofs.StoredPuts.{free_still, slot_equal}
-use Rattle.gaz_page.proofs.FreeChains.{not_again, each_other}
+use Rattle.gaz_heap.proofs.StoredPuts.{slot_equal}
+use Rattle.gaz_page.proofs.FreeChains.{free_still, not_again, each_other}
 use Rattle.gaz_heap.proofs.NewPuts.{IsNew, not_new, was_none, in_use_of, later}
 
 pub each_at : (P : ℕ → Type 0) (list : List ℕ) (n : ℕ) → Each P list → Among list n → P n

@@ -14,8 +14,8 @@ use Rattle.gaz_heap.specs.Facts.{IsHeap, Holds, StillHolds, SlotStays, Puts}
 use Rattle.gaz_slots.proofs.PageKinds.{free_not_record, free_not_overflow}
 use Rattle.gaz_slots.proofs.Recorded.{formed, unformed}
 use Rattle.gaz_heap.proofs.Holds.{each_formed, each_more, chain_of, record_slot, far, pages_chain, pages_slot, holds_still, nothing}
-use Rattle.gaz_heap.proofs.StoredPuts.{the_page, the_slot, no_chain, same_place, free_still, slot_equal}
-use Rattle.gaz_page.proofs.FreeChains.{not_again, each_other}
+use Rattle.gaz_heap.proofs.StoredPuts.{the_page, the_slot, no_chain, same_place, slot_equal}
+use Rattle.gaz_page.proofs.FreeChains.{free_still, not_again, each_other}
 
 -- the page was free in form, or never taken
 abbrev pub IsNew : PagesView → ℕ → Type 0

@@ -1,7 +1,7 @@
 -- A record page was written over one that was read, or into one that was taken.
 use Rattle.std.proofs.Common.{◌≡◌, ◌≢◌, ◌≤◌, ◌<◌, ◌-◌, ℕ, true, List, sym, ap, ◌∙◌, subst, arith, Some, None, inl, inr}
-use Rattle.std.specs.Prelude.{nat_lt, not, ◌==◌, false}
-use Rattle.std.proofs.lemmas.Bool.{cases_lt, ltb-true, and_parts}
+use Rattle.std.specs.Prelude.{false}
+use Rattle.std.proofs.lemmas.Bool.{cases_lt}
 use Rattle.gaz_num.specs.Numbers.{some_if}
 use Rattle.gaz_page.specs.Pages.{PagesView, SamePages, Writes, Takes, Gives}
 use Rattle.gaz_page.proofs.PageMaps.{with_same, with_other}
@@ -87,9 +87,6 @@ last_given number slot end read written old mid new same is form used cleared no
         others = λ n differs. gives.others n differs ∙ (λ i. same.pages i n);
       };
     }
-
-pub used_below : (page : List ℕ) (slot : ℕ) → is_used page slot ≡ true → slot < count_in page
-used_below page slot used = ltb-true slot (count_in page) (and_parts (nat_lt slot (count_in page)) (not (from_in page slot == 0)) used).0
 
 pub unused_record : (page : List ℕ) (slot : ℕ) → is_used page slot ≡ false → slot_record page slot ≡ None
 unfolding slot_record

@@ -2,7 +2,6 @@
 use Rattle.std.proofs.Common.{◌≡◌, ◌≢◌, ◌≤◌, ◌<◌, ◌+◌, ◌*◌, ◌⊎◌, ℕ, true, false, List, [], ◌∷◌, sym, ap, ◌∙◌, subst, arith, inl, inr, Some, None}
 use Rattle.std.specs.Prelude.{IsTrue, Bool}
 use Rattle.std.proofs.lemmas.Bool.{cases_Bool, cases_eq, cases_lt, ne_eqb, false_from_ne_true}
-use Rattle.gaz_page.specs.Free.{free_link}
 use Rattle.gaz_page.specs.Pages.{PagesView}
 use Rattle.gaz_slots.specs.RecordPage.{record_in, is_record_page}
 use Rattle.gaz_slots.specs.Overflow.{is_overflow_page}
@@ -13,6 +12,7 @@ use Rattle.gaz_page.specs.Chains.{Each, Among, InUse, IsFreeChain}
 use Rattle.gaz_heap.specs.Facts.{IsHeap, Holds, StillHolds, Puts}
 use Rattle.gaz_slots.proofs.PageKinds.{overflow_not_record, free_not_record}
 use Rattle.gaz_slots.proofs.Recorded.{formed}
+use Rattle.gaz_page.proofs.FreeChains.{free_still}
 use Rattle.gaz_heap.proofs.Holds.{each_formed, each_more, chain_of, record_slot, far, pages_chain, pages_slot, holds_still, nothing}
 
 -- the place of a slot
@@ -27,16 +27,6 @@ no_chain number slot small = ne_eqb (slot_of (number * 65536 + slot)) 65535 (λ 
 
 pub same_place : (number slot other : ℕ) → page_of other ≡ number → slot_of other ≡ slot → other ≡ number * 65536 + slot
 same_place number slot other page here = omega arith
-
--- free pages are free still where they stay
-pub free_still : (old new : PagesView) (first : ℕ) (free : List ℕ) → old.fresh ≤ new.fresh → IsFreeChain old first free → Each (λ n. new.page n ≡ old.page n) free → IsFreeChain new first free
-free_still old new first [] grows chain each = chain
-free_still old new first (n ∷ rest) grows chain each =
-    let link = chain.2 in (
-      chain.0,
-      (chain.1.0, omega (arith, chain.1.1, grows)),
-      (link.0, ap (λ (p : List ℕ). free_link n p) each.0 ∙ link.1, free_still old new link.0 rest grows link.2 each.1),
-    )
 
 -- no free page is a record page in form
 pub free_differ : (old : PagesView) (number first : ℕ) (free : List ℕ) → is_record_page number (old.page number) ≡ true → IsFreeChain old first free → Each (λ n. n ≢ number) free

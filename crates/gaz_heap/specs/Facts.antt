@@ -1,13 +1,13 @@
 -- What is supposed of pages that hold records, and what a put and a drop then make of the records.
-use Rattle.std.specs.Prelude.{◌≡◌, ◌≢◌, ◌≤◌, ◌<◌, ◌+◌, ◌-◌, ◌^◌, ◌⊎◌, ℕ, true, false, IsTrue, List, [], ◌∷◌, length, Some, None, Result, Err}
+use Rattle.std.specs.Prelude.{◌≡◌, ◌≢◌, ◌≤◌, ◌<◌, ◌+◌, ◌-◌, ◌^◌, ◌⊎◌, ℕ, true, false, IsTrue, List, length, Some, None, Result, Err, IsSome}
 use Rattle.gaz_page.specs.declared.pages.PageFault.{PageFault}
 use Rattle.gaz_page.specs.declared.pages.PageFault.TheVariants.{Damaged}
-use Rattle.gaz_page.specs.Free.{free_link}
 use Rattle.gaz_page.specs.Pages.{PagesView}
-use Rattle.gaz_page.specs.Chains.{Each, Among, InUse, IsTakenSince, IsFreeChain}
+use Rattle.gaz_page.specs.Chains.{Each, Among, InUse, IsTakenSince, IsFreeChain, TakeMeets}
 use Rattle.gaz_slots.specs.Overflow.{is_overflow_page}
 use Rattle.gaz_slots.specs.RecordPage.{is_record_page, is_used, slot_record}
 use Rattle.gaz_heap.specs.Place.{record_at, pages_of, page_of, slot_of, is_chain}
+use Rattle.gaz_heap.specs.Heap.{HasNoRoom}
 
 -- what is supposed of the pages: these are free, and the page for new records, if there is one, was taken once
 pub record IsHeap (v : PagesView) (current : ℕ) (free : List ℕ) : Type 0 where
@@ -88,6 +88,8 @@ pub record Drops (old new : PagesView) (current : ℕ) (free : List ℕ) (place 
   pub given : (n : ℕ) → Among after n → Among free n ⊎ Among (pages_of old.page place) n
   -- each page of the place that isn't the one for new records, and has no used slot left, is free
   pub emptied : (n : ℕ) → Among (pages_of old.page place) n → n ≢ current → (is_record_page n (new.page n) ≡ true → (slot : ℕ) → slot_record (new.page n) slot ≡ None) → Among after n
+  -- a long record gives all its pages
+  pub whole : IsTrue (is_chain place) → (n : ℕ) → Among (pages_of old.page place) n → Among after n
   -- all pages but the place's stay, and none is newly taken
   pub stays : (n : ℕ) → (Among (pages_of old.page place) n → ⊥) → new.page n ≡ old.page n
   pub fresh : new.fresh ≡ old.fresh
@@ -95,6 +97,33 @@ pub record Drops (old new : PagesView) (current : ℕ) (free : List ℕ) (place 
   pub slots : (other : ℕ) → (IsTrue (is_chain other) → ⊥) → other ≢ place → record_at new.page other ≡ record_at old.page other
   -- the page for new records stays one
   pub records : IsForRecords old current → IsForRecords new current
+
+-- what a record that is put in place of the one at a place makes of pages
+pub record Replaces (old new : PagesView) (place : ℕ) (bytes : List ℕ) : Type 0 where
+  -- the place is one of a slot, and has this record where it had another
+  pub slotted : IsTrue (is_chain place) → ⊥
+  pub had : IsSome (record_at old.page place)
+  pub has : record_at new.page place ≡ Some bytes
+  -- where it is spoken of, it is so still, as all other places
+  pub holds : (earlier : List ℕ) → Holds old place earlier → Holds new place bytes
+  pub others : (other : ℕ) (earlier : List ℕ) → Holds old other earlier → other ≢ place → StillHolds old new other earlier
+  -- its page is a record page still, and all other pages stay
+  pub pages : pages_of new.page place ≡ pages_of old.page place
+  pub form : is_record_page (page_of place) (new.page (page_of place)) ≡ true
+  pub stays : (n : ℕ) → n ≢ page_of place → new.page n ≡ old.page n
+  -- each other place has the record that it had, and none where it had none
+  pub rest : (other : ℕ) → other ≢ place → record_at new.page other ≡ record_at old.page other
+  -- no page is taken or given, and what was supposed still holds
+  pub first : new.free ≡ old.free
+  pub fresh : new.fresh ≡ old.fresh
+  pub heap : (current : ℕ) (free : List ℕ) → IsHeap old current free → IsHeap new current free
+  -- the page for new records stays one
+  pub records : (current : ℕ) → IsForRecords old current → IsForRecords new current
+
+-- A record isn't put in place of the one at a place: the place stands for a chain, or the record is too long for a record page, or it is longer
+-- than the one in the slot, and the page has no room for it even without that one and packed.
+abbrev pub IsRefused : PagesView → ℕ → List ℕ → Type 0
+IsRefused v place bytes = IsTrue (is_chain place) ⊎ ((4076 < length bytes) ⊎ HasNoRoom (page_of place) (slot_of place) bytes (v.page (page_of place)))
 
 -- what was given by now of the pages of a chain, `whole`; these are left
 pub record Given (old now : PagesView) (free whole left : List ℕ) : Type 0 where
@@ -112,9 +141,9 @@ pub record Given (old now : PagesView) (free whole left : List ℕ) : Type 0 whe
 abbrev pub IsUsedUp : PagesView → List ℕ → Type 0
 IsUsedUp v free = (2 ^ 32 - 18 ≤ v.fresh) × (length free < 17)
 
--- the damage that a put names: the page for new records, where it isn't a record page in form, or 0 where pages are used up
+-- the damage that a put names: the page for new records, where there is one and it isn't a record page in form, or 0 where pages are used up
 abbrev pub PutFails : PagesView → ℕ → List ℕ → Result ℕ PageFault → Type 0
-PutFails old current free (Err (Damaged page)) = ((page ≡ current) × (is_record_page current (old.page current) ≡ false)) ⊎ ((page ≡ 0) × IsUsedUp old free)
+PutFails old current free (Err (Damaged page)) = ((page ≡ current) × (current ≢ 0) × (is_record_page current (old.page current) ≡ false)) ⊎ ((page ≡ 0) × IsUsedUp old free)
 PutFails old current free _ = Unit
 
 -- the same for a long record, whose pages are all taken
@@ -122,28 +151,15 @@ abbrev pub LongFails : PagesView → List ℕ → Result ℕ PageFault → Type 
 LongFails old free (Err (Damaged page)) = (page ≡ 0) × IsUsedUp old free
 LongFails old free _ = Unit
 
--- the free chain comes by its links from the first free page to this one, through these pages, the last one first
-abbrev pub ComesTo : PagesView → List ℕ → ℕ → Type 0
-ComesTo v [] page = page ≡ v.free
-ComesTo v (n ∷ earlier) page = ComesTo v earlier n × (n ≢ 0) × (free_link n (v.page n) ≡ Some page)
-
--- One of at most 17 takes meets damage at this page, whatever the free chain is: the chain comes to its end there and pages are used up, or to a
--- page that isn't a free one in form, or to one that it came through before.
-pub record TakeMeets (v : PagesView) (page : ℕ) : Type 0 where
-  pub passed : List ℕ
-  pub few : length passed ≤ 16
-  pub comes : ComesTo v passed page
-  pub broken : ((page ≡ 0) × (2 ^ 32 - 18 ≤ v.fresh)) ⊎ ((page ≢ 0) × ((free_link page (v.page page) ≡ None) ⊎ Among passed page))
-
--- the damage that a put of a long record names, whatever is supposed of the pages: damage that a take meets
+-- the damage that a put of a long record names, whatever is supposed of the pages: what one of 17 takes meets
 abbrev pub LongNames : PagesView → Result ℕ PageFault → Type 0
-LongNames old (Err (Damaged page)) = TakeMeets old page
+LongNames old (Err (Damaged page)) = TakeMeets 17 old page
 LongNames old _ = Unit
 
 -- The damage that a put names, whatever is supposed of the pages: the page for new records, where it isn't a record page in form and the record
--- is one for it, or damage that a take meets.
+-- is one for it, or what one of 17 takes meets.
 abbrev pub PutNames : PagesView → ℕ → List ℕ → Result ℕ PageFault → Type 0
-PutNames old current bytes (Err (Damaged page)) = ((length bytes ≤ 4076) × (page ≡ current) × (is_record_page current (old.page current) ≡ false)) ⊎ TakeMeets old page
+PutNames old current bytes (Err (Damaged page)) = ((length bytes ≤ 4076) × (page ≡ current) × (current ≢ 0) × (is_record_page current (old.page current) ≡ false)) ⊎ TakeMeets 17 old page
 PutNames old current bytes _ = Unit
 
 -- each page of the place is one of its kind: a record page in form of which the slot is used, or an overflow page in form

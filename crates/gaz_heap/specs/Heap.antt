@@ -5,10 +5,10 @@ use Rattle.gaz_page.specs.Free.{free_link}
 use Rattle.gaz_page.specs.declared.pages.PageFault.{PageFault}
 use Rattle.gaz_page.specs.declared.pages.PageFault.TheVariants.{Failed, Damaged, Memory}
 use Rattle.gaz_slots.specs.Bytes.{IsCopied}
-use Rattle.gaz_slots.specs.RecordPage.{count_in, from_in, is_used, is_record_page, slot_record, record_in}
-use Rattle.gaz_slots.specs.Room.{IsTooFull}
+use Rattle.gaz_slots.specs.RecordPage.{count_in, from_in, size_in, is_used, is_record_page, slot_record, record_in}
+use Rattle.gaz_slots.specs.Room.{IsTooFull, IsTooFullFor}
 use Rattle.gaz_slots.specs.Overflow.{is_overflow_page, next_in, piece_in}
-use Rattle.gaz_slots.specs.Edited.{Filled, Cleared}
+use Rattle.gaz_slots.specs.Edited.{Filled, Cleared, Replaced}
 use Rattle.gaz_page.specs.Chains.{Each, Among}
 use Rattle.gaz_heap.specs.Chain.{chain_pages}
 use Rattle.gaz_heap.specs.Place.{record_at}
@@ -68,9 +68,9 @@ abbrev pub TakeDamage : PagesView → Result ℕ PageFault → Type 0
 TakeDamage old (Err (Damaged page)) = damage old ≡ Some page
 TakeDamage old _ = Unit
 
--- Damage is answered only where the page for new records isn't a record page in form, or where a take meets it.
+-- Damage is answered only where there is a page for new records that isn't a record page in form, or where a take meets it.
 abbrev pub PutDamage : ℕ → PagesView → Result ℕ PageFault → Type 0
-PutDamage current old (Err (Damaged page)) = ((page ≡ current) × (is_record_page current (old.page current) ≡ false)) ⊎ (damage old ≡ Some page)
+PutDamage current old (Err (Damaged page)) = ((page ≡ current) × (current ≢ 0) × (is_record_page current (old.page current) ≡ false)) ⊎ (damage old ≡ Some page)
 PutDamage current old _ = Unit
 
 -- A piece of a long record stands in a page that was taken for it, and no other page changed.
@@ -117,8 +117,36 @@ DropsPiece page old new (Ok next) = (is_overflow_page page (old.page page) ≡ t
 DropsPiece page old new (Err (Damaged damaged)) = (damaged ≡ page) × (is_overflow_page page (old.page page) ≡ false)
 DropsPiece page old new (Err _) = Unit
 
+-- Damage is answered only of a page without a record in the slot.
+abbrev pub SlotDamage : {T : Type 0} → ℕ → ℕ → PagesView → Result T PageFault → Type 0
+SlotDamage number slot old (Err (Damaged page)) = (page ≡ number) × (record_in number (old.page number) slot ≡ None)
+SlotDamage number slot old _ = Unit
+
+-- The slot of a record page has a record in place of the one that it had, and no other page changed.
+pub record HasReplaced (number slot : ℕ) (bytes : List ℕ) (old new : PagesView) : Type 0 where
+  pub form : is_record_page number (old.page number) ≡ true
+  pub was_used : IsTrue (is_used (old.page number) slot)
+  pub replaced : Replaced number slot bytes (old.page number) (new.page number)
+  pub others : (n : ℕ) → n ≢ number → new.page n ≡ old.page n
+  pub free : new.free ≡ old.free
+  pub fresh : new.fresh ≡ old.fresh
+
+-- The slot has a record, which is shorter than this one, and the page has no room for this one in place of it, even where it is packed.
+pub record HasNoRoom (number slot : ℕ) (bytes page : List ℕ) : Type 0 where
+  pub form : is_record_page number page ≡ true
+  pub used : IsTrue (is_used page slot)
+  pub longer : size_in page slot < length bytes
+  pub full : IsTooFullFor slot (length bytes) page
+
+-- the answer to a record for a slot that has one: it has this one, it stays as it was, or a fault
+abbrev pub ReplacesSlot : ℕ → ℕ → List ℕ → PagesView → PagesView → Result Bool PageFault → Type 0
+ReplacesSlot number slot bytes old new (Ok true) = HasReplaced number slot bytes old new
+ReplacesSlot number slot bytes old new (Ok false) = SamePages old new × HasNoRoom number slot bytes (old.page number)
+ReplacesSlot number slot bytes old new (Err (Damaged page)) = (page ≡ number) × (record_in number (old.page number) slot ≡ None)
+ReplacesSlot number slot bytes old new (Err _) = Unit
+
 -- Damage is answered only where there is no record.
-abbrev pub DropDamage : Option (List ℕ) → Result Unit PageFault → Type 0
+abbrev pub DropDamage : {T : Type 0} → Option (List ℕ) → Result T PageFault → Type 0
 DropDamage record_ (Err (Damaged _)) = record_ ≡ None
 DropDamage record_ _ = Unit
 

@@ -1,15 +1,15 @@
-//! Records of all lengths are put, and dropped.
-ghost use Rattle.std.specs.Prelude.{◌≡◌, ◌≢◌, ◌⊎◌, ◌≤◌, ◌<◌, ◌+◌, ◌*◌, ◌/◌, ◌-◌, ℕ, List, false, length, Some, [], IfOk, OnOk, OnErr, IsTrue};
-ghost use Rattle.gaz_page.specs.Pages.{Costs};
+//! Records of all lengths are put, put in place of others, and dropped.
+ghost use Rattle.std.specs.Prelude.{◌≡◌, ◌≢◌, ◌⊎◌, ◌≤◌, ◌<◌, ◌+◌, ◌*◌, ◌/◌, ◌-◌, ℕ, List, true, false, length, Some, [], IfOk, OnOk, OnErr, IsTrue};
+ghost use Rattle.gaz_page.specs.Pages.{SamePages, Costs};
 ghost use Rattle.gaz_heap.specs.Heap.{HasUsed, DropsPiece, DropDamage, GivesAll};
 ghost use Rattle.gaz_heap.specs.Chain.{chain_at, chain_pages};
 ghost use Rattle.gaz_page.specs.Chains.{Each, InUse, IsFreeChain};
-ghost use Rattle.gaz_heap.specs.Facts.{IsHeap, Puts, PutsThere, PutFails, PutNames, LongFails, LongNames, Holds, Drops, DropsAny, Given};
-ghost use Rattle.gaz_heap.specs.Place.{record_at, page_of};
+ghost use Rattle.gaz_heap.specs.Facts.{IsHeap, Puts, PutsThere, PutFails, PutNames, LongFails, LongNames, Holds, Drops, DropsAny, Given, Replaces, IsRefused};
+ghost use Rattle.gaz_heap.specs.Place.{record_at, page_of, is_chain};
 ghost use Rattle.gaz_slots.specs.Room.{Fits};
 
 use crate::heap::{CHAIN, CHAIN_PAGES, SHORT, chain_place, put_short};
-use crate::store::{drop_slot, store_piece};
+use crate::store::{drop_slot, replace_slot, store_piece};
 use gaz_page::{PageFault, Pages};
 use gaz_slots::{PIECE, next_of};
 
@@ -94,6 +94,31 @@ pub fn drop_record<P: Pages>(pages: &mut P, current: &mut u32, place: u64) -> Re
     } else {
         drop_slot(pages, page, slot as usize, page == *current)
     }
+}
+
+/// Puts a record in place of the one that stands at a place, in the same slot, and answers whether it did: it does where the record isn't longer than
+/// the one that stands there, or where the page has room for it, if need be once it is packed. A chain stays as it is.
+/// One page is changed, or none where the answer is false. After an error the pages are to be dropped.
+pub fn replace<P: Pages>(pages: &mut P, place: u64, bytes: &[u8]) -> Result<bool, PageFault>
+    requires { (P.view pages.old).is_read_only ≡ false }
+    ensures replaces { IsTrue (P.view pages.old).is_told → IfOk result (λ did. did ≡ true → Replaces (P.view pages.old) (P.view pages.new) place bytes.now) }
+    ensures same { IsTrue (P.view pages.old).is_told → IfOk result (λ did. did ≡ false → SamePages (P.view pages.old) (P.view pages.new)) }
+    ensures unchanged { IfOk result (λ did. did ≡ false → (P.view pages.new).changed ≡ (P.view pages.old).changed) }
+    ensures refused { IsTrue (P.view pages.old).is_told → IfOk result (λ did. did ≡ false → IsRefused (P.view pages.old) place bytes.now) }
+    ensures fits { IsTrue (P.view pages.old).is_told → (earlier : List ℕ) → record_at (P.view pages.old).page place ≡ Some earlier → (IsTrue (is_chain place) → ⊥) → length bytes.now ≤ length earlier → IfOk result (λ did. did ≡ true) }
+    ensures damaged { IsTrue (P.view pages.old).is_told → DropDamage (record_at (P.view pages.old).page place) result }
+    ensures costs { Costs 1 1 (P.view pages.old) (P.view pages.new) result }
+    ensures keeps { P.keeps pages.old pages.new }
+{
+    if place >= 1 << 48 {
+        return Err(PageFault::Damaged(0));
+    }
+    let page = (place / 65536) as u32;
+    let slot = place % 65536;
+    if slot == CHAIN || bytes.len() > SHORT {
+        return Ok(false);
+    }
+    replace_slot(pages, page, slot as usize, bytes)
 }
 
 /// Gives the pages of a chain.

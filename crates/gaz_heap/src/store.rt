@@ -4,10 +4,13 @@ ghost use Rattle.gaz_slots.specs.Room.{IsTooFull};
 ghost use Rattle.gaz_page.specs.Pages.{PagesView, SamePages, HasReads, Costs, NotDamaged};
 ghost use Rattle.gaz_slots.specs.RecordPage.{is_record_page as is_in_form, is_used as has_record, slot_record, count_in};
 ghost use Rattle.gaz_slots.specs.Edited.{Filled};
-ghost use Rattle.gaz_heap.specs.Heap.{HasUsed, StoresIn, StoresAlone, StoresPieceIn, DropsSlot};
+ghost use Rattle.gaz_heap.specs.Heap.{HasUsed, StoresIn, StoresAlone, StoresPieceIn, DropsSlot, ReplacesSlot, SlotDamage};
 
 use gaz_page::{PAGE, PageFault, Pages};
-use gaz_slots::{clear_slot, fill_alone, fill_piece, insert, is_record_page, is_used, used_end};
+use gaz_slots::{
+    clear_slot, fill_alone, fill_piece, insert, is_record_page, is_used,
+    replace as replace_in_page, used_end,
+};
 
 /// Copies a page.
 fn load<P: Pages>(pages: &mut P, number: u32, page: &mut [u8]) -> Result<(), PageFault>
@@ -121,6 +124,35 @@ pub(crate) fn store_piece<P: Pages>(
     }
 }
 
+/// Copies a record page of which the slot is used.
+fn load_used<P: Pages>(
+    pages: &mut P,
+    number: u32,
+    slot: usize,
+    page: &mut [u8],
+) -> Result<(), PageFault>
+    requires { length page.old ≡ 4096 }
+    ensures bytes { OnOk result (IsTrue (P.view pages.old).is_told → page.new ≡ (P.view pages.old).page number) }
+    ensures form { OnOk result (is_in_form number page.new ≡ true) }
+    ensures used { OnOk result (IsTrue (has_record page.new slot)) }
+    ensures damaged { IsTrue (P.view pages.old).is_told → SlotDamage number slot (P.view pages.old) result }
+    ensures reads { HasReads 1 (P.view pages.old) (P.view pages.new) result }
+    ensures size { length page.new ≡ 4096 }
+    ensures keeps { P.keeps pages.old pages.new }
+{
+    match load(pages, number, page) {
+        Ok(()) => {}
+        Err(fault) => return Err(fault),
+    }
+    if !is_record_page(number, page) {
+        return Err(PageFault::Damaged(number));
+    }
+    if !is_used(page, slot) {
+        return Err(PageFault::Damaged(number));
+    }
+    Ok(())
+}
+
 /// Makes a slot of a record page free. Where nothing else stands in the page, and it isn't to stay, the page is given.
 pub(crate) fn drop_slot<P: Pages>(
     pages: &mut P,
@@ -134,15 +166,9 @@ pub(crate) fn drop_slot<P: Pages>(
     ensures keeps { P.keeps pages.old pages.new }
 {
     let mut page = [0; PAGE];
-    match load(pages, number, &mut page) {
+    match load_used(pages, number, slot, &mut page) {
         Ok(()) => {}
         Err(fault) => return Err(fault),
-    }
-    if !is_record_page(number, &page) {
-        return Err(PageFault::Damaged(number));
-    }
-    if !is_used(&page, slot) {
-        return Err(PageFault::Damaged(number));
     }
     clear_slot(&mut page, slot);
     if stays {
@@ -152,4 +178,32 @@ pub(crate) fn drop_slot<P: Pages>(
         return pages.give(number);
     }
     pages.write(number, &page)
+}
+
+/// Puts a record in place of the one of a slot of a record page. Answers false where it doesn't fit, even once the page is packed.
+pub(crate) fn replace_slot<P: Pages>(
+    pages: &mut P,
+    number: u32,
+    slot: usize,
+    bytes: &[u8],
+) -> Result<bool, PageFault>
+    requires may_change { (P.view pages.old).is_read_only ≡ false }
+    requires short { length bytes.now ≤ 4076 }
+    ensures replaces { IsTrue (P.view pages.old).is_told → ReplacesSlot number slot bytes.now (P.view pages.old) (P.view pages.new) result }
+    ensures unchanged { IfOk result (λ did. did ≡ false → (P.view pages.new).changed ≡ (P.view pages.old).changed) }
+    ensures costs { Costs 1 1 (P.view pages.old) (P.view pages.new) result }
+    ensures keeps { P.keeps pages.old pages.new }
+{
+    let mut page = [0; PAGE];
+    match load_used(pages, number, slot, &mut page) {
+        Ok(()) => {}
+        Err(fault) => return Err(fault),
+    }
+    if !replace_in_page(number, &mut page, slot, bytes) {
+        return Ok(false);
+    }
+    match pages.write(number, &page) {
+        Ok(()) => Ok(true),
+        Err(fault) => Err(fault),
+    }
 }

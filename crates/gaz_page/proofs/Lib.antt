@@ -6,5 +6,6 @@ pub mod PageMaps
 pub mod FreeBack
 pub mod FreeChains
 pub mod TakeDamages
+pub mod Takes
 mod Examples
 mod TreeExamples

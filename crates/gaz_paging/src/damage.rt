@@ -2,7 +2,7 @@
 use crate::pattern::{buffer, id_key};
 use crate::records::put_made;
 use crate::stopped::{Stopped, check, must, printed};
-use gaz_heap::{drop_record, get};
+use gaz_heap::{drop_record, get, replace};
 use gaz_page::{MemPages, PAGE, PageFault, Pages};
 use gaz_scan::Scan;
 use gaz_tree::Tree;
@@ -69,6 +69,14 @@ pub fn pages(rt: &impl Print, alloc: Global) -> Result<(), Stopped> {
         names(drop_record(&mut pages, &mut current, 1 << 48), 0),
         "a drop past all pages",
     )?;
+    check(
+        names(replace(&mut pages, 65536 + 1, &[]), 1),
+        "a record in place of no slot's",
+    )?;
+    check(
+        names(replace(&mut pages, 1 << 48, &[]), 0),
+        "a record in place of one past all pages",
+    )?;
 
     must(pages.write(1, &[0; PAGE]))?;
     check(
@@ -78,6 +86,10 @@ pub fn pages(rt: &impl Print, alloc: Global) -> Result<(), Stopped> {
     check(
         names(drop_record(&mut pages, &mut current, short), 1),
         "a drop from a page of another kind",
+    )?;
+    check(
+        names(replace(&mut pages, short, &[]), 1),
+        "a record in place of one in a page of another kind",
     )?;
     let put_there = put_made(&mut pages, &mut current, 3, 10, &mut buf);
     check(
@@ -105,7 +117,7 @@ pub fn pages(rt: &impl Print, alloc: Global) -> Result<(), Stopped> {
         names(drop_record(&mut pages, &mut current, long), 4),
         "a drop of a chain that goes in a circle",
     )?;
-    printed(println!(rt; "damaged records: 11 told by their pages"))
+    printed(println!(rt; "damaged records: 14 told by their pages"))
 }
 
 /// A leaf whose first key is above all others.

@@ -1,6 +1,7 @@
 //! Each call of the pages fails in turn: the call that makes it answers so, and no other does.
 use crate::pattern::{buffer, id_key};
 use crate::records::{is_there, put_made};
+use crate::replaced::replace_made;
 use crate::stopped::{Stopped, check, had, must, printed};
 use gaz_heap::drop_record;
 use gaz_page::{MemPages, PageFault};
@@ -8,7 +9,7 @@ use gaz_tree::Tree;
 use std::alloc::Global;
 use std::io::Print;
 
-/// Puts two records, reads them and drops them.
+/// Puts two records, reads them, puts one in place of another and drops them.
 fn two_records(pages: &mut MemPages, wanted: &mut [u8], buf: &mut [u8]) -> Result<(), Stopped> {
     let mut current = 0;
     let short = put_made(pages, &mut current, 1, 100, buf)?;
@@ -20,6 +21,10 @@ fn two_records(pages: &mut MemPages, wanted: &mut [u8], buf: &mut [u8]) -> Resul
     check(
         is_there(pages, long, 2, 9000, wanted, buf)?,
         "the long record",
+    )?;
+    check(
+        replace_made(pages, short, 3, 100, buf)?,
+        "a record in place of another",
     )?;
     must(drop_record(pages, &mut current, long))?;
     must(drop_record(pages, &mut current, short))
@@ -47,7 +52,9 @@ pub fn each_call(rt: &impl Print, alloc: Global) -> Result<(), Stopped> {
         check(pages.calls() == number, "a call after the one that failed")?;
         calls = number;
     }
-    printed(println!(rt; "two records put, read and dropped: each of {calls} calls failed in turn"))
+    printed(println!(rt;
+        "two records put, read, replaced and dropped: each of {calls} calls failed in turn"
+    ))
 }
 
 /// Puts 103 keys, reads one, and takes 60 out.

@@ -10,6 +10,7 @@ mod keys;
 mod pattern;
 mod ranges;
 mod records;
+mod replaced;
 mod steps;
 mod stopped;
 
@@ -36,6 +37,9 @@ fn words(rt: &HostRuntime) -> io::Result<Vec<String>> {
 fn trial(rt: &HostRuntime) -> Result<(), Stopped> {
     records::lengths(rt, rt.alloc())?;
     records::holes(rt, rt.alloc())?;
+    replaced::to_the_byte(rt, rt.alloc())?;
+    replaced::long_ones(rt, rt.alloc())?;
+    replaced::beside_a_map(rt, rt.alloc())?;
     failing::each_call(rt, rt.alloc())?;
     damage::pages(rt, rt.alloc())?;
     keys::beside_a_map(rt, rt.alloc())?;

@@ -1,12 +1,12 @@
 //! A scan over the pairs of a tree whose keys lie in a range.
-ghost use Rattle.std.specs.Prelude.{◌≡◌, ◌<◌, ◌≤◌, ◌+◌, ◌*◌, ◌++◌, ℕ, List, [], IsTrue, IfErr, Some};
+ghost use Rattle.std.specs.Prelude.{◌≡◌, ◌<◌, ◌≤◌, ◌+◌, ◌*◌, ◌++◌, ℕ, List, [], IsTrue, IfOk, IfErr, OnOk, Some};
 ghost use Rattle.gaz_leaf.specs.Node.{Pair, key_of, key_in, entry_at, count_of as count_in, IsShaped};
 ghost use Rattle.gaz_tree.specs.Tree.{IsTop};
 ghost use Rattle.gaz_tree.specs.Calls.{NamesOf};
 ghost use Rattle.gaz_page.specs.Pages.{HasReads, NoMemory};
 ghost use Rattle.gaz_scan.specs.Ranges.{between, up_to};
 ghost use Rattle.gaz_scan.specs.Seek.{rest_of, IsAfterLast};
-ghost use Rattle.gaz_scan.specs.Scan.{Comes, Gives, GivesFirst, Fills, tree_of};
+ghost use Rattle.gaz_scan.specs.Scan.{Comes, Gives, GivesFirst, Fills, IsOfLeaf, StandsOn, WentDown, tree_of};
 
 use crate::after::after;
 use crate::copied::Copied;
@@ -27,8 +27,10 @@ pub struct Scan {
 
 /// The next entry of the copied leaf, where there is one with a key up to this one.
 fn give(copied: &mut Copied, high: Key) -> Option<([u8; 32], u64)>
-    ensures { (more : List Pair) → (copied.old.at ≡ count_in copied.old.bytes → up_to (key_in high) (rest_of copied.old ++ more) ≡ [])
+    ensures first { (more : List Pair) → (copied.old.at ≡ count_in copied.old.bytes → up_to (key_in high) (rest_of copied.old ++ more) ≡ [])
         → GivesFirst (up_to (key_in high) (rest_of copied.old ++ more)) (up_to (key_in high) (rest_of copied.new ++ more)) result }
+    ensures bytes { copied.new.bytes ≡ copied.old.bytes }
+    ensures stands { StandsOn copied.new result }
 {
     if copied.at == count_of(&copied.bytes) {
         return None;
@@ -77,6 +79,7 @@ impl Scan {
             → Fills (P.view pages.old).page (P.view pages.new).page self.new left result }
         ensures tree { tree_of self.new ≡ tree_of self.old }
         ensures fault { IfErr result NoMemory }
+        ensures down { OnOk result (IsTrue (P.view pages.old).is_told → WentDown (P.view pages.old).page self.old self.new) }
         ensures names { IsTrue (P.view pages.old).is_told → NamesOf (P.view pages.old).page (tree_of self.old).height (tree_of self.old).top result }
         ensures reads { HasReads (2 * (tree_of self.old).height) (P.view pages.old) (P.view pages.new) result }
         ensures keeps { P.keeps pages.old pages.new }
@@ -112,6 +115,7 @@ impl Scan {
             → Fills (P.view pages.old).page (P.view pages.new).page self.new left result }
         ensures tree { tree_of self.new ≡ tree_of self.old }
         ensures fault { IfErr result NoMemory }
+        ensures down { OnOk result (IsTrue (P.view pages.old).is_told → WentDown (P.view pages.old).page self.old self.new) }
         ensures names { IsTrue (P.view pages.old).is_told → NamesOf (P.view pages.old).page (tree_of self.old).height (tree_of self.old).top result }
         ensures reads { HasReads (2 * (tree_of self.old).height) (P.view pages.old) (P.view pages.new) result }
         ensures keeps { P.keeps pages.old pages.new }
@@ -131,6 +135,9 @@ impl Scan {
             → Gives (P.view pages.old).page (P.view pages.new).page self.new left result }
         ensures tree { tree_of self.new ≡ tree_of self.old }
         ensures fault { IfErr result NoMemory }
+        // Whatever the pages are, each one that was gone through has its kind and its own number, and the pair stands in the leaf that was copied.
+        ensures down { OnOk result (IsTrue (P.view pages.old).is_told → WentDown (P.view pages.old).page self.old self.new) }
+        ensures stands { IfOk result (λ given. IsOfLeaf self.new given) }
         ensures names { IsTrue (P.view pages.old).is_told → NamesOf (P.view pages.old).page (tree_of self.old).height (tree_of self.old).top result }
         ensures reads { HasReads (2 * (tree_of self.old).height) (P.view pages.old) (P.view pages.new) result }
         ensures keeps { P.keeps pages.old pages.new }

@@ -1,8 +1,9 @@
 //! The search for the leaf with the first pair from a key on.
-ghost use Rattle.std.specs.Prelude.{◌≡◌, ◌<◌, ◌≤◌, ◌+◌, ◌*◌, ℕ, suc, List, [], take, drop, length, false, IsTrue, IfOk, IfErr};
-ghost use Rattle.gaz_leaf.specs.Node.{Pair, key_in, pairs_in, count_of as count_in, number_of, key_of, entry_at, IsForm, IsShaped};
+ghost use Rattle.std.specs.Prelude.{◌≡◌, ◌<◌, ◌≤◌, ◌+◌, ◌*◌, ℕ, suc, List, [], take, drop, length, false, IsTrue, IfOk, IfErr, OnOk};
+ghost use Rattle.gaz_leaf.specs.Node.{Pair, key_in, pairs_in, count_of as count_in, key_of, entry_at, IsForm, IsPage, IsShaped};
 ghost use Rattle.gaz_tree.specs.Pairs.{Within};
 ghost use Rattle.gaz_tree.specs.Tree.{BeginsWithZero, children_of, leaf_of, tree_pairs, next_key, IsFan, IsHead, IsTree, SomeEntry};
+ghost use Rattle.gaz_tree.specs.Calls.{LeadsDown};
 ghost use Rattle.gaz_page.specs.Pages.{HasReads, NoMemory};
 ghost use Rattle.gaz_scan.specs.Seek.{Turns, FirstChild, Sought, First, Copies, CopiesOne, IsUnfit, IsNext, IsAmong, NamesUnder, pairs_below};
 
@@ -35,7 +36,8 @@ fn copy_in(bytes: &[u8], page: u32, key: Key, copied: &mut Copied) -> Result<boo
         → low ≤ key_in key → key_in key < high → Sought low high (key_in key) (pairs_in Kind.Leaf bytes.now) result copied.new }
     ensures copies { Copies result copied.old copied.new }
     ensures damaged { IfErr result (λ fault. fault ≡ PageFault.Damaged page) }
-    ensures own { IfOk result (λ found. number_of bytes.now ≡ page) }
+    ensures own { IfOk result (λ found. IsPage Kind.Leaf page bytes.now) }
+    ensures shows { IfOk result (λ found. IsTrue found → copied.new.bytes ≡ bytes.now) }
     ensures unfit { IfErr result (λ fault. IsForm Kind.Leaf page bytes.now → ⊥) }
 {
     if !is_page(bytes, Kind::Leaf, page) {
@@ -57,7 +59,8 @@ fn copy_all_in(bytes: &[u8], page: u32, copied: &mut Copied) -> Result<(), PageF
         → 0 < count_in bytes.now → First low high (pairs_in Kind.Leaf bytes.now) result copied.new }
     ensures copies { CopiesOne result copied.old copied.new }
     ensures damaged { IfErr result (λ fault. fault ≡ PageFault.Damaged page) }
-    ensures own { IfOk result (λ copied. number_of bytes.now ≡ page) }
+    ensures own { OnOk result (IsPage Kind.Leaf page bytes.now) }
+    ensures shows { OnOk result (copied.new.bytes ≡ bytes.now) }
     ensures unfit { IfErr result (λ fault. IsUnfit Kind.Leaf page bytes.now) }
 {
     if !is_page(bytes, Kind::Leaf, page) {
@@ -82,6 +85,8 @@ fn copy_from<P: Pages>(
         → low ≤ key_in key → key_in key < high → Sought low high (key_in key) (leaf_of (P.view pages.old).page page) result copied.new }
     ensures copies { Copies result copied.old copied.new }
     ensures fault { IfErr result NoMemory }
+    ensures own { IfOk result (λ found. IsTrue (P.view pages.old).is_told → IsPage Kind.Leaf page ((P.view pages.old).page page)) }
+    ensures shows { IfOk result (λ found. IsTrue found → IsTrue (P.view pages.old).is_told → copied.new.bytes ≡ (P.view pages.old).page page) }
     ensures names { IsTrue (P.view pages.old).is_told → (most : ℕ) → NamesUnder (P.view pages.old).page most 0 page result }
     ensures reads { HasReads 1 (P.view pages.old) (P.view pages.new) result }
     ensures keeps { P.keeps pages.old pages.new }
@@ -98,6 +103,8 @@ fn copy_all<P: Pages>(pages: &mut P, page: u32, copied: &mut Copied) -> Result<(
         → First low high (leaf_of (P.view pages.old).page page) result copied.new }
     ensures copies { CopiesOne result copied.old copied.new }
     ensures fault { IfErr result NoMemory }
+    ensures own { OnOk result (IsTrue (P.view pages.old).is_told → IsPage Kind.Leaf page ((P.view pages.old).page page)) }
+    ensures shows { OnOk result (IsTrue (P.view pages.old).is_told → copied.new.bytes ≡ (P.view pages.old).page page) }
     ensures names { IsTrue (P.view pages.old).is_told → (most : ℕ) → 0 < most → NamesUnder (P.view pages.old).page most 0 page result }
     ensures reads { HasReads 1 (P.view pages.old) (P.view pages.new) result }
     ensures keeps { P.keeps pages.old pages.new }
@@ -113,6 +120,7 @@ fn read_turn<P: Pages>(pages: &mut P, page: u32, key: Key) -> Result<Turn, PageF
     ensures turns { IsTrue (P.view pages.old).is_told → IsForm Kind.Inner page ((P.view pages.old).page page)
         → BeginsWithZero (children_of (P.view pages.old).page page) → Turns (children_of (P.view pages.old).page page) (key_in key) result }
     ensures child { IfOk result (λ turn. IsTrue (P.view pages.old).is_told → SomeEntry (λ e. e.value ≡ turn.child) (children_of (P.view pages.old).page page)) }
+    ensures own { IfOk result (λ turn. IsTrue (P.view pages.old).is_told → IsPage Kind.Inner page ((P.view pages.old).page page)) }
     ensures behind { IfOk result (λ turn. IsTrue (P.view pages.old).is_told → IsAmong turn.next (children_of (P.view pages.old).page page)) }
     ensures fault { IfErr result NoMemory }
     ensures names { IsTrue (P.view pages.old).is_told → (most level : ℕ) → level < most → NamesUnder (P.view pages.old).page most (suc level) page result }
@@ -130,6 +138,7 @@ fn read_first<P: Pages>(pages: &mut P, page: u32) -> Result<u32, PageFault>
     ensures first { IsTrue (P.view pages.old).is_told → IsForm Kind.Inner page ((P.view pages.old).page page)
         → BeginsWithZero (children_of (P.view pages.old).page page) → FirstChild (children_of (P.view pages.old).page page) result }
     ensures child { IfOk result (λ child. IsTrue (P.view pages.old).is_told → SomeEntry (λ e. e.value ≡ child) (children_of (P.view pages.old).page page)) }
+    ensures own { IfOk result (λ child. IsTrue (P.view pages.old).is_told → IsPage Kind.Inner page ((P.view pages.old).page page)) }
     ensures fault { IfErr result NoMemory }
     ensures names { IsTrue (P.view pages.old).is_told → (most level : ℕ) → level < most → NamesUnder (P.view pages.old).page most (suc level) page result }
     ensures reads { HasReads 1 (P.view pages.old) (P.view pages.new) result }
@@ -152,6 +161,7 @@ fn first_below<P: Pages>(
         → First low high (tree_pairs (P.view pages.old).page level page) result copied.new }
     ensures copies { CopiesOne result copied.old copied.new }
     ensures fault { IfErr result NoMemory }
+    ensures down { OnOk result (IsTrue (P.view pages.old).is_told → LeadsDown (P.view pages.old).page (λ leaf. copied.new.bytes ≡ (P.view pages.old).page leaf) level page) }
     ensures names { IsTrue (P.view pages.old).is_told → (most : ℕ) → level < most → NamesUnder (P.view pages.old).page most level page result }
     ensures reads { HasReads (level + 1) (P.view pages.old) (P.view pages.new) result }
     ensures keeps { P.keeps pages.old pages.new }
@@ -176,6 +186,8 @@ fn follow<P: Pages>(
         → Sought (next_key high ys) high (next_key high ys) (pairs_below (P.view pages.old).page level ys) result copied.new }
     ensures copies { Copies result copied.old copied.new }
     ensures fault { IfErr result NoMemory }
+    ensures down { IfOk result (λ found. IsTrue found → IsTrue (P.view pages.old).is_told → (page : ℕ) → IsAmong next (children_of (P.view pages.old).page page)
+        → IsPage Kind.Inner page ((P.view pages.old).page page) → LeadsDown (P.view pages.old).page (λ leaf. copied.new.bytes ≡ (P.view pages.old).page leaf) (suc level) page) }
     ensures names { IsTrue (P.view pages.old).is_told → (most page : ℕ) → level < most → IsAmong next (children_of (P.view pages.old).page page) → NamesUnder (P.view pages.old).page most (suc level) page result }
     ensures few { IfOk result (λ found. found ≡ false → (P.view pages.new).reads ≤ (P.view pages.old).reads) }
     ensures reads { HasReads (level + 1) (P.view pages.old) (P.view pages.new) result }
@@ -202,6 +214,8 @@ pub fn seek_below<P: Pages>(
         → low ≤ key_in key → key_in key < high → Sought low high (key_in key) (tree_pairs (P.view pages.old).page level page) result copied.new }
     ensures copies { Copies result copied.old copied.new }
     ensures fault { IfErr result NoMemory }
+    ensures down { IfOk result (λ found. IsTrue (P.view pages.old).is_told
+        → LeadsDown (P.view pages.old).page (λ leaf. IsTrue found → copied.new.bytes ≡ (P.view pages.old).page leaf) level page) }
     ensures names { IsTrue (P.view pages.old).is_told → (most : ℕ) → level ≤ most → NamesUnder (P.view pages.old).page most level page result }
     ensures few { IfOk result (λ found. found ≡ false → (P.view pages.new).reads ≤ (P.view pages.old).reads + (level + 1)) }
     ensures reads { HasReads (2 * (level + 1)) (P.view pages.old) (P.view pages.new) result }

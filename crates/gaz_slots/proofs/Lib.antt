@@ -3,12 +3,14 @@ pub mod Edits
 pub mod Form
 pub mod Placed
 pub mod Emptied
+pub mod Overwritten
 pub mod Added
 pub mod Empty
 pub mod Filled
 pub mod RoomLeft
 pub mod Packed
 pub mod Slots
+pub mod Replaced
 pub mod Recorded
 pub mod Shown
 pub mod PieceFilled

@@ -1,7 +1,7 @@
 -- What a change of one slot makes of a record page.
 use Rattle.std.specs.Prelude.{◌≡◌, ◌≢◌, ◌<◌, ◌+◌, max, ℕ, true, List, ◌∷◌, [], ◌++◌, length, replicate, Some, None}
 use Rattle.std.specs.Int.{w32, to_be_bytes}
-use Rattle.gaz_slots.specs.RecordPage.{count_in, mark_in, from_in, is_record_page, slot_record}
+use Rattle.gaz_slots.specs.RecordPage.{count_in, mark_in, from_in, size_in, is_record_page, slot_record}
 use Rattle.gaz_slots.specs.Room.{held_below, last_used}
 
 -- The slot has these bytes as its record, the other slots have what they had, and the page is in form.
@@ -57,6 +57,20 @@ pub record FilledExactly (number slot : ℕ) (bytes old new : List ℕ) : Type 0
   pub filled : Filled number slot bytes old new
   pub count : count_in new ≡ max (count_in old) (slot + 1)
   pub mark : mark_in new + length bytes ≡ mark_in old
+
+-- A slot has these bytes as its record in place of the one that it had. The others have what they had, and the page is in form.
+pub record Replaced (number slot : ℕ) (bytes old new : List ℕ) : Type 0 where
+  pub form : is_record_page number new ≡ true
+  pub there : slot_record new slot ≡ Some bytes
+  pub others : (k : ℕ) → k ≢ slot → slot_record new k ≡ slot_record old k
+
+-- the same, and each record stands where it stood
+pub record Overwritten (number slot : ℕ) (bytes old new : List ℕ) : Type 0 where
+  pub replaced : Replaced number slot bytes old new
+  pub count : count_in new ≡ count_in old
+  pub froms : (k : ℕ) → k < count_in old → from_in new k ≡ from_in old k
+  pub size : size_in new slot ≡ length bytes
+  pub sizes : (k : ℕ) → k < count_in old → k ≢ slot → size_in new k ≡ size_in old k
 
 -- The same records stand in the same slots, one behind the other, there are no slots behind the last used one, and the page is in form.
 pub record Packs (number : ℕ) (old new : List ℕ) : Type 0 where

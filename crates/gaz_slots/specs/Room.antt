@@ -1,5 +1,5 @@
 -- Whether a record page has room for one record more, once its records stand one behind the other.
-use Rattle.std.specs.Prelude.{◌≤◌, ◌<◌, ◌+◌, ◌*◌, ◌==◌, ℕ, zero, suc, List, if◌then◌else◌}
+use Rattle.std.specs.Prelude.{◌≤◌, ◌<◌, ◌+◌, ◌*◌, ◌-◌, ◌==◌, ℕ, zero, suc, List, if◌then◌else◌}
 use Rattle.gaz_slots.specs.RecordPage.{all_below, count_in, from_in, size_in, is_used}
 
 -- how many bytes of records a slot stands for
@@ -36,3 +36,12 @@ Fits n page = size_with n page ≤ 4096
 -- it doesn't, even where the page is packed
 abbrev pub IsTooFull : ℕ → List ℕ → Type 0
 IsTooFull n page = 4096 < size_with n page
+
+-- How many bytes the page takes with a record of n bytes in place of the one of a slot, where all records stand one behind the other: its
+-- header, its slots, its other records and this one.
+unfoldable pub size_with_other : ℕ → ℕ → List ℕ → ℕ
+size_with_other slot n page = 16 + 4 * last_used page + (held_below (count_in page) page - held_by page slot) + n
+
+-- such a record doesn't fit, even where the page is packed
+abbrev pub IsTooFullFor : ℕ → ℕ → List ℕ → Type 0
+IsTooFullFor slot n page = 4096 < size_with_other slot n page

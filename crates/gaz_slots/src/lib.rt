@@ -11,5 +11,5 @@ mod record_page;
 
 pub use overflow::{LONGEST, PIECE, Piece, copy_piece, fill_piece, next_of};
 pub use record_page::{
-    clear_slot, copy_slot, fill_alone, insert, is_record_page, is_used, used_end,
+    clear_slot, copy_slot, fill_alone, insert, is_record_page, is_used, replace, used_end,
 };

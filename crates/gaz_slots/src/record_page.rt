@@ -1,8 +1,8 @@
 //! A record page: a list of slots from its front, and records from its end towards them.
-ghost use Rattle.std.specs.Prelude.{◌≡◌, ◌≤◌, ◌<◌, ◌+◌, ◌*◌, ◌-◌, ℕ, ◌≢◌, ◌⊎◌, true, false, None, Some, length, max, take, IfSome, IsNone, IsTrue};
+ghost use Rattle.std.specs.Prelude.{◌≡◌, ◌≤◌, ◌<◌, ◌+◌, ◌*◌, ◌-◌, ℕ, ◌≢◌, ◌⊎◌, true, false, None, Some, [], length, max, take, IfSome, IsNone, IsTrue};
 ghost use Rattle.gaz_slots.specs.Bytes.{IsCopied};
-ghost use Rattle.gaz_slots.specs.Edited.{Placed, Cleared, Added, Opened, Filled, FilledExactly, Packs, PacksFirst, empty_head, empty_page};
-ghost use Rattle.gaz_slots.specs.Room.{held_by, held_below, used_below, last_used, IsTooFull};
+ghost use Rattle.gaz_slots.specs.Edited.{Placed, Cleared, Added, Opened, Filled, FilledExactly, Replaced, Overwritten, Packs, PacksFirst, empty_head, empty_page};
+ghost use Rattle.gaz_slots.specs.Room.{held_by, held_below, used_below, last_used, IsTooFull, IsTooFullFor};
 ghost use Rattle.gaz_slots.specs.RecordPage.{all_below, is_used as has_record, slot_record, shown_in, count_in, mark_in, from_in, size_in, has_record_head, has_mark, is_within as stands_within, is_apart as stand_apart, is_record_page as is_in_form};
 
 use crate::bytes::{put, put_short};
@@ -389,6 +389,86 @@ fn insert_packed(number: u32, page: &mut [u8], bytes: &[u8]) -> Option<usize>
     }
     page.copy_from_slice(&packed);
     Some(slot)
+}
+
+/// Writes a record over one that isn't shorter.
+fn overwrite(page: &mut [u8], slot: usize, bytes: &[u8])
+    requires size { length page.old ≡ 4096 }
+    requires slot { 20 + 4 * slot ≤ 4096 }
+    requires room { from_in page.old slot + length bytes.now ≤ 4096 }
+    ensures written { (number : ℕ) → is_in_form number page.old ≡ true → IsTrue (has_record page.old slot) → length bytes.now ≤ size_in page.old slot → Overwritten number slot bytes.now page.old page.new }
+    ensures size { length page.new ≡ 4096 }
+{
+    let from = from_of(page, slot);
+    put(page, from, bytes);
+    let size = bytes.len() as u16;
+    put_short(page, HEADER + 2 + 4 * slot, size);
+}
+
+/// Puts a record in place of the one of a slot, before all others. Answers false where there is no room before the mark.
+fn put_before(page: &mut [u8], slot: usize, bytes: &[u8]) -> bool
+    requires form { (number : ℕ) × (is_in_form number page.old ≡ true) }
+    requires size { length page.old ≡ 4096 }
+    requires slot { slot < count_in page.old }
+    requires short { length bytes.now ≤ 4076 }
+    ensures replaced { result ≡ true → (number : ℕ) → is_in_form number page.old ≡ true → Replaced number slot bytes.now page.old page.new }
+    ensures no_room { result ≡ false → mark_in page.old < 16 + 4 * count_in page.old + length bytes.now }
+    ensures size { length page.new ≡ 4096 }
+{
+    clear_slot(page, slot);
+    put_in_slot(page, slot, bytes)
+}
+
+/// Puts a record in place of the one of a used slot: over it where it isn't longer, and else before all others. Where it wouldn't fit else the page
+/// is packed in place, without the old record. Answers false where it doesn't fit even then, and then changes nothing.
+pub fn replace(number: u32, page: &mut [u8], slot: usize, bytes: &[u8]) -> bool
+    requires form { is_in_form number page.old ≡ true }
+    requires size { length page.old ≡ 4096 }
+    requires used { IsTrue (has_record page.old slot) }
+    requires short { length bytes.now ≤ 4076 }
+    ensures replaced { result ≡ true → Replaced number slot bytes.now page.old page.new }
+    ensures longer { result ≡ false → size_in page.old slot < length bytes.now }
+    ensures full { result ≡ false → IsTooFullFor slot (length bytes.now) page.old }
+    ensures same { result ≡ false → page.new ≡ page.old }
+    ensures size { length page.new ≡ 4096 }
+{
+    if bytes.len() <= size_of(page, slot) {
+        overwrite(page, slot, bytes);
+        return true;
+    }
+    let mut changed = [0; PAGE];
+    changed.copy_from_slice(page);
+    if !put_before(&mut changed, slot, bytes) {
+        return replace_packed(number, page, slot, bytes);
+    }
+    page.copy_from_slice(&changed);
+    true
+}
+
+/// Packs the page without the record of a slot, and puts another one into the slot.
+fn replace_packed(number: u32, page: &mut [u8], slot: usize, bytes: &[u8]) -> bool
+    requires form { is_in_form number page.old ≡ true }
+    requires size { length page.old ≡ 4096 }
+    requires used { IsTrue (has_record page.old slot) }
+    requires short { length bytes.now ≤ 4076 }
+    ensures replaced { result ≡ true → Replaced number slot bytes.now page.old page.new }
+    ensures full { result ≡ false → IsTooFullFor slot (length bytes.now) page.old }
+    ensures same { result ≡ false → page.new ≡ page.old }
+    ensures size { length page.new ≡ 4096 }
+{
+    // The slot stays used, so that it is there in the packed page.
+    let mut emptied = [0; PAGE];
+    emptied.copy_from_slice(page);
+    overwrite(&mut emptied, slot, &[]);
+    let mut packed = [0; PAGE];
+    if !pack(number, &emptied, &mut packed) {
+        return false;
+    }
+    if !put_before(&mut packed, slot, bytes) {
+        return false;
+    }
+    page.copy_from_slice(&packed);
+    true
 }
 
 /// Makes the bytes a record page with this record alone, in slot 0.

@@ -1,7 +1,7 @@
 -- What is left of a tree after a call on records, and of records after a call on the tree.
 use Rattle.std.proofs.Common.{◌≡◌, ◌≢◌, ◌≤◌, ◌<◌, ◌-◌, ◌^◌, ◌⊎◌, ℕ, zero, suc, true, false, List, length, [], ◌∷◌, Some, None, refl, sym, ap, ◌∙◌, subst, arith, inl, inr}
 use Rattle.std.specs.Prelude.{IsSome, slice_index, Option, ◌==◌, ◌&&◌, nat_le}
-use Rattle.std.proofs.lemmas.Bool.{cases_Bool, cases_lt, and_parts, eqb-true}
+use Rattle.std.proofs.lemmas.Bool.{cases_Bool, cases_lt, and_parts, eqb-true, false_from_ne_true}
 use Rattle.gaz_page.specs.Root.{number_at}
 use Rattle.gaz_page.specs.Free.{free_link, short_at}
 use Rattle.gaz_heap.proofs.LongPuts.{each_at}
@@ -12,7 +12,8 @@ use Rattle.gaz_leaf.specs.Node.{Pair, IsForm, kind_byte, count_of}
 use Rattle.gaz_leaf.proofs.Edits.{first_byte}
 use Rattle.gaz_tree.specs.declared.tree.Tree.{Tree}
 use Rattle.gaz_tree.specs.Tree.{kind_at, Reaches, HasTwo}
-use Rattle.gaz_tree.specs.Put.{first_of, IsChain, Changes, IsSpare}
+use Rattle.gaz_tree.specs.Put.{Changes, IsSpare}
+use Rattle.gaz_tree.proofs.Chains.{on_chain}
 use Rattle.gaz_tree.specs.Stands.{Stands, OfTree}
 use Rattle.gaz_tree.proofs.Fans.{Stays, head_stays, pairs_stay}
 use Rattle.gaz_tree.proofs.Changed.{form_not_free, head_form, lower, reach_back}
@@ -23,8 +24,10 @@ use Rattle.gaz_heap.specs.Chain.{chain_pages}
 use Rattle.gaz_slots.proofs.PageKinds.{free_not_record, free_not_overflow}
 use Rattle.gaz_slots.proofs.Recorded.{unformed}
 use Rattle.gaz_heap.proofs.Holds.{each_formed, each_more, chain_of, record_slot, far, pages_chain, pages_slot, holds_still, nothing}
-use Rattle.gaz_page.specs.Chains.{Each, Among, InUse, IsFreeChain}
-use Rattle.gaz_heap.specs.Facts.{Holds, StillHolds, IsHeap, IsForRecords, MayHold, Puts, Drops}
+use Rattle.gaz_heap.proofs.StoredPuts.{free_differ}
+use Rattle.gaz_page.specs.Chains.{Each, InUse, IsFreeChain}
+use Rattle.gaz_page.proofs.FreeChains.{free_still}
+use Rattle.gaz_heap.specs.Facts.{Holds, StillHolds, IsHeap, IsForRecords, MayHold, Puts, Drops, Replaces}
 use Rattle.gaz_slots.proofs.Form.{form_says}
 
 no_three : (kind : Kind) → kind_byte kind ≢ 3
@@ -33,20 +36,6 @@ no_three Inner e = omega arith
 
 form_not_record : (kind : Kind) (n m : ℕ) (page : List ℕ) → IsForm kind n page → is_record_page m page ≡ true → ⊥
 form_not_record kind n m page form record_ = no_three kind (sym (first_byte kind n page form) ∙ (form_says m page record_).kind)
-
-free_has_link : (v : PagesView) (first n : ℕ) (free : List ℕ) → IsFreeChain v first free → Among free n → IsSome (free_link n (v.page n))
-free_has_link v first n [] chain among = absurd among
-free_has_link v first n (m ∷ rest) chain among =
-    elim among [
-      | inl is ↦ subst (λ (k : ℕ). IsSome (free_link k (v.page k))) (sym is) (subst IsSome (sym chain.2.1) refl)
-      | inr more ↦ free_has_link v chain.2.0 n rest chain.2.2 more
-    ]
-
-as_chain : (v : PagesView) (first : ℕ) (free : List ℕ) → IsFreeChain v first free → (first_of free ≡ first) × IsChain v.page v.fresh free
-as_chain v first [] chain = (sym chain, tt)
-as_chain v first (n ∷ rest) chain =
-    let more = as_chain v chain.2.0 rest chain.2.2 in
-    (sym chain.0, (omega (arith, chain.1.0), chain.1.1, chain.2.1 ∙ ap (λ (k : ℕ). Some k) (sym more.0), more.1))
 
 two_stays : (old new : ℕ → List ℕ) (level top : ℕ) → Stays old new level top → HasTwo old level top → HasTwo new level top
 two_stays old new zero top same two = tt
@@ -66,7 +55,6 @@ stands_still old new tree pairs free s same grows free_chain =
     let tall = s.top.tall in
     let is : s.top.level ≡ tree.height - 1 = omega arith in
     let same_ : Stays old.page new.page s.top.level tree.top = λ n r. same n (subst (λ (l : ℕ). Reaches old.page l tree.top n) is r) in
-    let chain = as_chain new new.free free free_chain in
     record {
       top = record {
         level = s.top.level;
@@ -77,7 +65,7 @@ stands_still old new tree pairs free s same grows free_chain =
         holds = pairs_stay old.page new.page s.top.level tree.top same_ ∙ s.top.holds;
       };
       lies = λ n r. let was = s.lies n (reach_back old.page new.page (tree.height - 1) tree.top n same r) in record { start = was.start; end = omega (arith, was.end, grows) };
-      chain = record { frees = free; first = chain.0; chain = chain.1 };
+      chain = record { frees = free; chain = free_chain };
     }
 
 -- no page that a record may be put into is the tree's
@@ -87,7 +75,7 @@ not_held v tree pairs current n free s heap reach may =
     elim may [
       | inl here ↦ form_not_record form.0 n n (v.page n) form.1 here.1
       | inr more ↦ elim more [
-        | inl free_ ↦ form_not_free form.0 n (v.page n) form.1 (free_has_link v v.free n free heap.chain free_)
+        | inl free_ ↦ form_not_free form.0 n (v.page n) form.1 (on_chain v v.free n free heap.chain free_)
         | inr past ↦ (let lies = s.lies n reach in omega (arith, past, lies.end))
       ]
     ]
@@ -162,9 +150,21 @@ tree_after_drop old new tree pairs current free bytes place s heap holds drops =
     (λ n reach. drops.stays n (λ among. not_of_tree old tree pairs n s (each_at (HasRecords old.page) (pages_of old.page place) n (each_kind old place bytes holds) among) reach))
     (omega (arith, drops.fresh)) drops.heap.chain
 
-some_of : (o : Option ℕ) → IsSome o → (x : ℕ) × (o ≡ Some x)
+some_of : {T : Type 0} (o : Option T) → IsSome o → (x : T) × (o ≡ Some x)
 some_of None s = absurd cc
 some_of (Some x) s = (x, refl)
+
+pub tree_after_replace : (old new : PagesView) (tree : Tree) (pairs : List Pair) (place : ℕ) (bytes : List ℕ) → Stands old tree pairs → Replaces old new place bytes → Stands new tree pairs
+tree_after_replace old new tree pairs place bytes s r =
+    let number = page_of place in
+    let had = some_of (record_at old.page place) r.had in
+    let form = slot_formed old place had.0 (false_from_ne_true (is_chain place) r.slotted) had.1 in
+    let grows : old.fresh ≤ new.fresh = omega (arith, r.fresh) in
+    let apart = free_differ old number old.free s.chain.frees form s.chain.chain in
+    let still = free_still old new old.free s.chain.frees grows s.chain.chain (each_more (λ n. n ≢ number) (λ n. new.page n ≡ old.page n) s.chain.frees r.stays apart) in
+    stands_still old new tree pairs s.chain.frees s
+    (λ n reach. r.stays n (λ is. not_of_tree old tree pairs n s (inl (subst (λ (m : ℕ). is_record_page m (old.page m) ≡ true) (sym is) form)) reach))
+    grows (subst (λ (first : ℕ). IsFreeChain new first s.chain.frees) (sym r.first) still)
 
 not_spare : (v : PagesView) (n : ℕ) → HasRecords v.page n → n < v.fresh → IsSpare v n → ⊥
 not_spare v n kind below (inr past) = omega (arith, below, past)
@@ -183,16 +183,12 @@ record_after_key old new tree pairs place bytes s changes holds =
     (λ n both. changes.others n (not_of_tree old tree pairs n s both.1) (not_spare old n both.1 both.0.1))
     (each_both (InUse old) (HasRecords old.page) (pages_of old.page place) holds.pages (each_kind old place bytes holds)))
 
-as_free : (v : PagesView) (first : ℕ) (ns : List ℕ) → first_of ns ≡ first → IsChain v.page v.fresh ns → IsFreeChain v first ns
-as_free v first [] is chain = sym is
-as_free v first (n ∷ ns) is chain = (sym is, (omega (arith, chain.0), chain.1), (first_of ns, chain.2, as_free v (first_of ns) ns refl chain.3))
-
 -- what the records suppose of the pages holds still
 pub heap_after_key : (old new : PagesView) (before after : Tree) (pairs now : List Pair) (current : ℕ) (free : List ℕ) → Stands old before pairs → IsHeap old current free → IsForRecords old current
     → Changes (OfTree old.page before) old new → (s : Stands new after now) → IsHeap new current s.chain.frees × IsForRecords new current
 heap_after_key old new before after pairs now current free was heap records changes s =
     let grows = changes.grows in
-    let chain = as_free new new.free s.chain.frees s.chain.first s.chain.chain in
+    let chain = s.chain.chain in
     elim records [
       | inl none_ ↦ (record { least = omega (arith, heap.least, grows); chain = chain; page = inl none_ }, inl none_)
       | inr form ↦ elim heap.page [

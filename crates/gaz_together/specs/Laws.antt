@@ -5,7 +5,7 @@ use Rattle.gaz_leaf.specs.Node.{Pair}
 use Rattle.gaz_tree.specs.declared.tree.Tree.{Tree}
 use Rattle.gaz_tree.specs.Put.{Changes}
 use Rattle.gaz_tree.specs.Stands.{Stands, OfTree}
-use Rattle.gaz_heap.specs.Facts.{IsHeap, Holds, StillHolds, IsForRecords, Puts, Drops}
+use Rattle.gaz_heap.specs.Facts.{IsHeap, Holds, StillHolds, IsForRecords, Puts, Drops, Replaces}
 
 -- A record that is put leaves the tree.
 abbrev pub TreeAfterPut : Type 0
@@ -16,6 +16,10 @@ TreeAfterPut = (old new : PagesView) (tree : Tree) (pairs : List Pair) (current 
 abbrev pub TreeAfterDrop : Type 0
 TreeAfterDrop = (old new : PagesView) (tree : Tree) (pairs : List Pair) (current : ℕ) (free bytes : List ℕ) (place : ℕ) → Stands old tree pairs → IsHeap old current free
     → Holds old place bytes → Drops old new current free place → Stands new tree pairs
+
+-- A record that is put in place of another one leaves the tree.
+abbrev pub TreeAfterReplace : Type 0
+TreeAfterReplace = (old new : PagesView) (tree : Tree) (pairs : List Pair) (place : ℕ) (bytes : List ℕ) → Stands old tree pairs → Replaces old new place bytes → Stands new tree pairs
 
 -- A call on the tree leaves each record, on the same pages.
 abbrev pub RecordAfterKey : Type 0

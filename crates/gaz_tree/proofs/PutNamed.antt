@@ -11,7 +11,9 @@ use Rattle.gaz_tree.specs.declared.grown.Grown.{Grown}
 use Rattle.gaz_tree.specs.declared.tree.Tree.{Tree}
 use Rattle.gaz_tree.specs.Tree.{children_of, SomeEntry}
 use Rattle.gaz_tree.specs.Calls.{IsMisfitSince, NamesSince}
-use Rattle.gaz_tree.specs.Put.{Rises, IsTakeFault, IsTakeDamage, AddNames, PutNames}
+use Rattle.gaz_page.specs.Chains.{TakesAlong}
+use Rattle.gaz_page.proofs.Takes.{along_same, take_meets, meets_more, meets_same}
+use Rattle.gaz_tree.specs.Put.{IsTakeDamage, AddNames, PutNames}
 use Rattle.gaz_tree.specs.Stands.{PutNamesOf}
 use Rattle.gaz_tree.proofs.Trading.{take_damage_over}
 use Rattle.gaz_tree.proofs.Named.{since_below}
@@ -35,9 +37,7 @@ pub put_leaf_added : (old mid new : PagesView) (page n : ℕ) (result : Result G
 put_leaf_added old mid new page n (Ok x) same le names = tt
 put_leaf_added old mid new page n (Err Failed) same le names = tt
 put_leaf_added old mid new page n (Err Memory) same le names = tt
-put_leaf_added old mid new page n (Err (Damaged m)) same le (inl met) =
-    let e = same.fresh in
-    inl (record { mid = mid; met = met; rises = record { late = omega arith; soon = omega arith } })
+put_leaf_added old mid new page n (Err (Damaged m)) same le (inl met) = inl (take_meets 0 old mid m (along_same old mid same) met)
 put_leaf_added old mid new page n (Err (Damaged m)) same le (inr names) = inr (record {
   level = 0;
   leads = λ left. (refl, names.0);
@@ -46,36 +46,27 @@ put_leaf_added old mid new page n (Err (Damaged m)) same le (inr names) = inr (r
       (subst (λ (q : ℕ → List ℕ). n ≤ count_of (q page)) (sym same.pages) le);
 })
 
-fault_up : (most more : ℕ) (old mid : PagesView) (n : ℕ) → most ≤ more → SamePages old mid → IsTakeFault mid most n → IsTakeFault old more n
-fault_up most more old mid n le same f =
-    let e = same.fresh in
-    let late = f.rises.late in
-    let soon = f.rises.soon in
-    record { mid = f.mid; met = f.met; rises = record { late = omega arith; soon = omega arith } }
-
 -- below a child
 pub put_up : {T : Type 0} (old mid new : PagesView) (level below page child : ℕ) (result : Result T PageFault) → level ≡ suc below → SamePages old mid
     → SomeEntry (λ e. e.value ≡ child) (children_of old.page page) → PutNames mid new below child result → PutNames old new level page result
 put_up old mid new level below page child (Ok x) next same some names = tt
 put_up old mid new level below page child (Err Failed) next same some names = tt
 put_up old mid new level below page child (Err Memory) next same some names = tt
-put_up old mid new level below page child (Err (Damaged n)) next same some (inl fault) = inl (fault_up below level old mid n (omega arith) same fault)
+put_up old mid new level below page child (Err (Damaged n)) next same some (inl fault) =
+    inl (meets_more (suc below) (suc level) old n (omega arith) (meets_same (suc below) old mid n same fault))
 put_up {T} old mid new level below page child (Err (Damaged n)) next same some (inr names) =
     let damaged : Result T PageFault = Err (Damaged n) in
     inr (since_below old.page mid.page new.page level below page child damaged next same.pages some names)
 
 -- one more entry in an inner page
-pub put_split : (old mid then_ new : PagesView) (level below page n : ℕ) (result : Result Grown PageFault) → level ≡ suc below → SamePages old mid → Rises (below + 1) mid then_
+pub put_split : (old mid then_ new : PagesView) (level below page n : ℕ) (result : Result Grown PageFault) → level ≡ suc below → SamePages old mid → TakesAlong (below + 1) mid then_
     → n ≤ count_of (old.page page) → AddNames Inner page n then_ new result → PutNames old new level page result
-put_split old mid then_ new level below page n (Ok x) next same rises le names = tt
-put_split old mid then_ new level below page n (Err Failed) next same rises le names = tt
-put_split old mid then_ new level below page n (Err Memory) next same rises le names = tt
-put_split old mid then_ new level below page n (Err (Damaged m)) next same rises le (inl met) =
-    let e = same.fresh in
-    let late = rises.late in
-    let soon = rises.soon in
-    inl (record { mid = then_; met = met; rises = record { late = omega arith; soon = omega arith } })
-put_split old mid then_ new level below page n (Err (Damaged m)) next same rises le (inr names) =
+put_split old mid then_ new level below page n (Ok x) next same along le names = tt
+put_split old mid then_ new level below page n (Err Failed) next same along le names = tt
+put_split old mid then_ new level below page n (Err Memory) next same along le names = tt
+put_split old mid then_ new level below page n (Err (Damaged m)) next same along le (inl met) =
+    inl (meets_more (suc (below + 1)) (suc level) old m (omega arith) (meets_same (suc (below + 1)) old mid m same (take_meets (below + 1) mid then_ m along met)))
+put_split old mid then_ new level below page n (Err (Damaged m)) next same along le (inr names) =
     let misfit : IsMisfitSince old.page new.page (suc below) page m = record {
       level = suc below;
       leads = λ left. inl (refl, names.0);
@@ -88,19 +79,14 @@ put_split old mid then_ new level below page n (Err (Damaged m)) next same rises
 
 -- ---- the whole tree
 
-pub whole_names : (A B : Type 0) (old new : PagesView) (tree : Tree) (fault : PageFault) → PutNames {T = A} old new (tree.height - 1) tree.top (Err fault) → PutNamesOf {T = B} old new tree (Err fault)
-whole_names A B old new tree Failed names = tt
-whole_names A B old new tree Memory names = tt
-whole_names A B old new tree (Damaged n) (inl fault) =
-    let late = fault.rises.late in
-    let soon = fault.rises.soon in
-    inr (inl (record { mid = fault.mid; met = fault.met; rises = record { late = omega arith; soon = omega arith } }))
-whole_names A B old new tree (Damaged n) (inr names) = inr (inr names)
+pub whole_names : (A B : Type 0) (old new : PagesView) (tree : Tree) (fault : PageFault) → 1 ≤ tree.height → PutNames {T = A} old new (tree.height - 1) tree.top (Err fault) → PutNamesOf {T = B} old new tree (Err fault)
+whole_names A B old new tree Failed some names = tt
+whole_names A B old new tree Memory some names = tt
+whole_names A B old new tree (Damaged n) some (inl fault) = inr (inl (meets_more (suc (tree.height - 1)) (tree.height + 1) old n (omega arith) fault))
+whole_names A B old new tree (Damaged n) some (inr names) = inr (inr names)
 
-pub root_names : (A B : Type 0) (old mid new : PagesView) (tree : Tree) (fault : PageFault) → 1 ≤ tree.height → Rises (tree.height - 1 + 1) old mid → IsTakeDamage {T = A} mid (Err fault) → PutNamesOf {T = B} old new tree (Err fault)
-root_names A B old mid new tree Failed some rises d = tt
-root_names A B old mid new tree Memory some rises d = tt
-root_names A B old mid new tree (Damaged n) some rises d =
-    let late = rises.late in
-    let soon = rises.soon in
-    inr (inl (record { mid = mid; met = d; rises = record { late = omega arith; soon = omega arith } }))
+pub root_names : (A B : Type 0) (old mid new : PagesView) (tree : Tree) (fault : PageFault) → 1 ≤ tree.height → TakesAlong (tree.height - 1 + 1) old mid → IsTakeDamage {T = A} mid (Err fault) → PutNamesOf {T = B} old new tree (Err fault)
+root_names A B old mid new tree Failed some along d = tt
+root_names A B old mid new tree Memory some along d = tt
+root_names A B old mid new tree (Damaged n) some along d =
+    inr (inl (meets_more (suc (tree.height - 1 + 1)) (tree.height + 1) old n (omega arith) (take_meets (tree.height - 1 + 1) old mid n along d)))

@@ -1,7 +1,7 @@
 -- Pages that are taken and written: what becomes of the pages of a tree and the free ones together.
-use Rattle.std.proofs.Common.{◌≡◌, ◌≢◌, ◌≤◌, ◌<◌, ◌+◌, ◌⊎◌, ℕ, List, [], ◌∷◌, Some, refl, sym, ◌∙◌, ap, arith, subst, inl, inr}
+use Rattle.std.proofs.Common.{◌≡◌, ◌≢◌, ◌≤◌, ◌<◌, ◌+◌, ◌⊎◌, ℕ, List, [], ◌∷◌, Some, sym, ◌∙◌, ap, arith, subst, inl, inr}
 use Rattle.std.specs.Prelude.{Bool, ◌==◌, if◌then◌else◌, Result, Ok, Err}
-use Rattle.std.proofs.lemmas.Bool.{eq-eqb, ne_eqb, cases_lt}
+use Rattle.std.proofs.lemmas.Bool.{eq-eqb, cases_lt}
 use Rattle.gaz_page.specs.Free.{free_link}
 use Rattle.gaz_page.specs.declared.pages.PageFault.{PageFault}
 use Rattle.gaz_page.specs.declared.pages.PageFault.TheVariants.{Failed, Damaged, Memory}
@@ -11,30 +11,21 @@ use Rattle.gaz_page.specs.Pages.{PagesView, SamePages, Takes, with_page, damage}
 use Rattle.gaz_page.proofs.PageMaps.{with_other}
 use Rattle.gaz_leaf.specs.declared.kind.Kind.{Kind}
 use Rattle.gaz_leaf.specs.Node.{IsForm}
-use Rattle.gaz_page.specs.Chains.{Among}
-use Rattle.gaz_tree.specs.Put.{first_of, IsChain, HasChain, IsFree, Trades, TakesFew, IsSpent, IsTakeDamage}
+use Rattle.gaz_page.specs.Chains.{Among, IsFreeChain}
+use Rattle.gaz_page.proofs.FreeChains.{chain_one}
+use Rattle.gaz_tree.specs.Put.{HasChain, IsFree, Trades, TakesFew, IsSpent, IsTakeDamage}
 use Rattle.gaz_tree.proofs.Changed.{form_not_free, takes_change}
-use Rattle.gaz_tree.proofs.Chains.{In, chain_stays, same_link, once, on_chain, taken, left_one}
-
--- from a page on there is one chain
-same_list : (pages : ℕ → List ℕ) (fresh : ℕ) (ns ms : List ℕ) → IsChain pages fresh ns → IsChain pages fresh ms → first_of ns ≡ first_of ms → ns ≡ ms
-same_list pages fresh [] [] c d is = refl
-same_list pages fresh [] (m ∷ ms) c d is = absurd (let p = d.0 in omega arith)
-same_list pages fresh (n ∷ ns) [] c d is = absurd (let p = c.0 in omega arith)
-same_list pages fresh (n ∷ ns) (m ∷ ms) c d is =
-    let next = same_link (free_link n (pages n)) (first_of ns) (first_of ms) c.2 (subst (λ (k : ℕ). free_link k (pages k) ≡ Some (first_of ms)) (sym is) d.2) in
-    let rest = same_list pages fresh ns ms c.3 d.3 next in
-    λ i. is i ∷ rest i
+use Rattle.gaz_tree.proofs.Chains.{In, chain_kept, on_chain, taken, rest_taken, left_one}
 
 pub in_chain : (v : PagesView) (n : ℕ) (c : HasChain v) → IsFree v n → In n c.frees
-in_chain v n c f = subst (λ (l : List ℕ). Among l n) (same_list v.page v.fresh f.chain.frees c.frees f.chain.chain c.chain (f.chain.first ∙ sym c.first)) f.among
+in_chain v n c f = subst (λ (l : List ℕ). Among l n) (chain_one v v.free f.chain.frees c.frees f.chain.chain c.chain) f.among
 
 -- ---- writes over pages of S
 
 pub trade_write : (S : ℕ → Type 0) (a b : PagesView) (c : HasChain a) → ((n : ℕ) → In n c.frees → b.page n ≡ a.page n) → b.free ≡ a.free → b.fresh ≡ a.fresh
     → ((n : ℕ) → (S n → ⊥) → b.page n ≡ a.page n) → Trades S S a b
 trade_write S a b c same free fresh stays =
-    let after : HasChain b = record { frees = c.frees; first = c.first ∙ sym free; chain = chain_stays a.page b.page a.fresh b.fresh c.frees (omega arith) same c.chain } in
+    let after : HasChain b = record { frees = c.frees; chain = chain_kept a b c.frees free (omega arith) same c.chain } in
     record {
       used = λ n which. elim which [ inl s ↦ inl (inl s) | inr f ↦ inl (inr (record { chain = c; among = in_chain b n after f })) ];
       all = λ n which. elim which [
@@ -45,11 +36,7 @@ trade_write S a b c same free fresh stays =
     }
 
 pub chain_same : (old mid : PagesView) → SamePages old mid → HasChain old → HasChain mid
-chain_same old mid same c = record {
-  frees = c.frees;
-  first = c.first ∙ sym same.free;
-  chain = subst (λ (m : ℕ → List ℕ). IsChain m mid.fresh c.frees) (sym same.pages) (subst (λ (f : ℕ). IsChain old.page f c.frees) (sym same.fresh) c.chain);
-}
+chain_same old mid same c = record { frees = c.frees; chain = chain_kept old mid c.frees same.free (omega (arith, same.fresh)) (λ n i. (λ j. same.pages j n)) c.chain }
 
 -- pages that are the same, and then calls that took some
 pub few_over : (most : ℕ) (old mid new : PagesView) → SamePages old mid → TakesFew most mid new → TakesFew most old new
@@ -90,15 +77,15 @@ trade_same S a b same =
 
 -- ---- a page is taken
 
-took_fresh : (S : ℕ → Type 0) (a b : PagesView) (number : ℕ) (first : first_of [] ≡ a.free) → 0 < a.fresh → Takes a b number → Trades S (λ n. S n ⊎ (n ≡ number)) a b
+took_fresh : (S : ℕ → Type 0) (a b : PagesView) (number : ℕ) (first : a.free ≡ 0) → 0 < a.fresh → Takes a b number → Trades S (λ n. S n ⊎ (n ≡ number)) a b
 took_fresh S a b number first some t =
-    let test = eq-eqb a.free 0 (sym first) in
+    let test = eq-eqb a.free 0 first in
     let is : number ≡ a.fresh = t.first ∙ ap (λ (x : Bool). if x then a.fresh else a.free) test in
     let fresh : b.fresh ≡ a.fresh + 1 = t.fresh ∙ ap (λ (x : Bool). if x then a.fresh + 1 else a.fresh) test in
     let free : Some b.free ≡ Some 0 = t.free ∙ ap (λ (x : Bool). if x then Some 0 else free_link a.free (a.page a.free)) test in
     let none_ : b.free ≡ 0 = cc in
-    let before : HasChain a = record { frees = []; first = first; chain = tt } in
-    let after : HasChain b = record { frees = []; first = sym none_; chain = tt } in
+    let before : HasChain a = record { frees = []; chain = first } in
+    let after : HasChain b = record { frees = []; chain = none_ } in
     record {
       used = λ n which. elim which [
         | inl either ↦ elim either [ inl s ↦ inl (inl s) | inr same ↦ inr (omega (arith, same, is), omega (arith, same, is, fresh)) ]
@@ -111,17 +98,13 @@ took_fresh S a b number first some t =
       stays = λ n out. t.others n (λ same. out (inr same));
     }
 
-took_free : (S : ℕ → Type 0) (a b : PagesView) (number m : ℕ) (ms : List ℕ) → m ≡ a.free → IsChain a.page a.fresh (m ∷ ms) → Takes a b number → Trades S (λ n. S n ⊎ (n ≡ number)) a b
-took_free S a b number m ms first c t =
-    let test = ne_eqb a.free 0 (λ none_. omega (arith, none_, first, c.0)) in
-    let is : number ≡ m = t.first ∙ ap (λ (x : Bool). if x then a.fresh else a.free) test ∙ sym first in
-    let fresh : b.fresh ≡ a.fresh = t.fresh ∙ ap (λ (x : Bool). if x then a.fresh + 1 else a.fresh) test in
-    let free : Some b.free ≡ free_link a.free (a.page a.free) = t.free ∙ ap (λ (x : Bool). if x then Some 0 else free_link a.free (a.page a.free)) test in
-    let link : free_link a.free (a.page a.free) ≡ Some (first_of ms) = subst (λ (k : ℕ). free_link k (a.page k) ≡ Some (first_of ms)) first c.2 in
-    let next : b.free ≡ first_of ms = cc in
-    let off = λ (n : ℕ) (i : In n ms) (same : n ≡ number). once a.page a.fresh m ms c (subst (λ (k : ℕ). In k ms) (same ∙ is) i) in
-    let before : HasChain a = record { frees = m ∷ ms; first = first; chain = c } in
-    let after : HasChain b = record { frees = ms; first = sym next; chain = chain_stays a.page b.page a.fresh b.fresh ms (omega arith) (λ n i. t.others n (off n i)) c.3 } in
+took_free : (S : ℕ → Type 0) (a b : PagesView) (number m : ℕ) (ms : List ℕ) → IsFreeChain a a.free (m ∷ ms) → Takes a b number → Trades S (λ n. S n ⊎ (n ≡ number)) a b
+took_free S a b number m ms c t =
+    let r = rest_taken a b number m ms c t in
+    let is = r.is in
+    let fresh = r.fresh in
+    let before : HasChain a = record { frees = m ∷ ms; chain = c } in
+    let after : HasChain b = record { frees = ms; chain = r.chain } in
     record {
       used = λ n which. elim which [
         | inl either ↦ elim either [ inl s ↦ inl (inl s) | inr same ↦ inl (inr (record { chain = before; among = inl (same ∙ is) })) ]
@@ -137,12 +120,12 @@ took_free S a b number m ms first c t =
       stays = λ n out. t.others n (λ same. out (inr same));
     }
 
-took : (S : ℕ → Type 0) (a b : PagesView) (number : ℕ) (frees : List ℕ) → first_of frees ≡ a.free → IsChain a.page a.fresh frees → 0 < a.fresh → Takes a b number → Trades S (λ n. S n ⊎ (n ≡ number)) a b
-took S a b number [] first c some t = took_fresh S a b number first some t
-took S a b number (m ∷ ms) first c some t = took_free S a b number m ms first c t
+took : (S : ℕ → Type 0) (a b : PagesView) (number : ℕ) (frees : List ℕ) → IsFreeChain a a.free frees → 0 < a.fresh → Takes a b number → Trades S (λ n. S n ⊎ (n ≡ number)) a b
+took S a b number [] c some t = took_fresh S a b number c some t
+took S a b number (m ∷ ms) c some t = took_free S a b number m ms c t
 
 pub trade_take : (S : ℕ → Type 0) (a b : PagesView) (number : ℕ) → HasChain a → 0 < a.fresh → Takes a b number → Trades S (λ n. S n ⊎ (n ≡ number)) a b
-trade_take S a b number c some t = took S a b number c.frees c.first c.chain some t
+trade_take S a b number c some t = took S a b number c.frees c.chain some t
 
 -- ---- trades together
 
@@ -201,7 +184,7 @@ trade_add P A B a b t = record {
 -- ---- a page of the tree is written, or spread over itself and one that is taken, or one is taken and written
 
 off_chain : (v : PagesView) (kind : Kind) (page : ℕ) (c : HasChain v) → IsForm kind page (v.page page) → (n : ℕ) → In n c.frees → n ≢ page
-off_chain v kind page c form n i is = form_not_free kind n (v.page n) (subst (λ (k : ℕ). IsForm kind k (v.page k)) (sym is) form) (on_chain v.page v.fresh n c.frees c.chain i)
+off_chain v kind page c form n i is = form_not_free kind n (v.page n) (subst (λ (k : ℕ). IsForm kind k (v.page k)) (sym is) form) (on_chain v v.free n c.frees c.chain i)
 
 pub trade_written : (S : ℕ → Type 0) (a b : PagesView) (kind : Kind) (page : ℕ) (bytes : List ℕ) → HasChain a → IsForm kind page (a.page page) → S page → b.page ≡ with_page page bytes a.page → b.free ≡ a.free → b.fresh ≡ a.fresh → Trades S S a b
 trade_written S a b kind page bytes c form s pages free fresh =

@@ -1,9 +1,10 @@
 -- What the calls of a tree do to its pages, and what they answer.
-use Rattle.std.specs.Prelude.{◌≡◌, ◌<◌, ◌≤◌, ◌⊎◌, ℕ, zero, suc, Bool, IsTrue, List, ◌∷◌, ◌++◌, length, Result, Ok, Err}
+use Rattle.std.specs.Prelude.{◌≡◌, ◌<◌, ◌≤◌, ◌⊎◌, ℕ, zero, suc, Bool, IsTrue, List, ◌∷◌, ◌++◌, length, Option, Some, None, Result, Ok, Err}
 use Rattle.gaz_page.specs.declared.pages.PageFault.{PageFault}
 use Rattle.gaz_page.specs.declared.pages.PageFault.TheVariants.{Failed, Damaged}
 use Rattle.gaz_leaf.specs.declared.kind.Kind.{Kind}
-use Rattle.gaz_leaf.specs.Node.{Pair, IsForm}
+use Rattle.gaz_leaf.specs.declared.kind.Kind.TheVariants.{Leaf, Inner}
+use Rattle.gaz_leaf.specs.Node.{Pair, IsForm, IsPage}
 use Rattle.gaz_tree.specs.declared.way.Way.{Way}
 use Rattle.gaz_tree.specs.Tree.{from_low, next_key, children_of, kind_at, IsFilled, HasTwo, SomeEntry}
 
@@ -28,6 +29,18 @@ abbrev pub LeadsTo : List Pair → ℕ → Result Way PageFault → Type 0
 LeadsTo es key (Ok way) = (low high : ℕ) → low ≤ key → key < high → IsWay high key (from_low low es) way.place way.child
 LeadsTo es key (Err Failed) = Unit {0}
 LeadsTo es key (Err _) = ⊥
+
+-- ---- the pages that are gone through, whatever they are
+
+-- The pages lead down from this one of a level by children to a leaf of which P holds. Each of them has its kind and its own number.
+abbrev pub LeadsDown : (ℕ → List ℕ) → (ℕ → Type 0) → ℕ → ℕ → Type 0
+LeadsDown pages P zero page = IsPage Leaf page (pages page) × P page
+LeadsDown pages P (suc below) page = IsPage Inner page (pages page) × SomeEntry (λ e. LeadsDown pages P below e.value) (children_of pages page)
+
+-- A value that is answered stands among the pairs with its key.
+abbrev pub StandsIn : List Pair → ℕ → Option ℕ → Type 0
+StandsIn pairs key None = Unit {0}
+StandsIn pairs key (Some value) = SomeEntry (λ p. (p.key ≡ key) × (p.value ≡ value)) pairs
 
 -- ---- the page that damage names
 

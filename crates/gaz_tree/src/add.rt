@@ -1,11 +1,12 @@
 //! One more entry in a page.
-ghost use Rattle.std.specs.Prelude.{◌≡◌, ◌≤◌, ◌<◌, ◌+◌, ◌^◌, ℕ, false, List, length, IsTrue, IfOk, IfErr, OnOk};
+ghost use Rattle.std.specs.Prelude.{◌≡◌, ◌≤◌, ◌<◌, ◌+◌, ◌^◌, ℕ, false, List, length, slice_index, IsTrue, IfOk, IfErr, OnOk};
 ghost use Rattle.gaz_page.specs.Pages.{HasPageCause, Counts};
-ghost use Rattle.gaz_leaf.specs.Node.{Pair, key_of, pairs_in, count_of as count_in, number_of, capacity, IsForm, IsShaped, IsFitting};
+ghost use Rattle.gaz_leaf.specs.Node.{Pair, key_of, pairs_in, count_of as count_in, capacity, IsForm, IsShaped, IsOfKind, IsPage, IsFitting};
 ghost use Rattle.gaz_tree.specs.Tree.{from_low};
 ghost use Rattle.gaz_page.specs.Pages.{HasReads, NoMemory};
 ghost use Rattle.gaz_tree.specs.Calls.{Unfit};
-ghost use Rattle.gaz_tree.specs.Put.{inserted, SplitEnds, Adds, AddNames, Rises, IfKept, IsTakeDamage};
+ghost use Rattle.gaz_page.specs.Chains.{TakesAlong};
+ghost use Rattle.gaz_tree.specs.Put.{inserted, SplitEnds, Adds, AddNames, IfKept, IsTakeDamage};
 
 use crate::grown::{Grown, Half};
 use gaz_leaf::{Kind, count_of, first_key, insert, is_page, spread, zero_first};
@@ -20,7 +21,7 @@ pub fn load<P: Pages>(
 ) -> Result<usize, PageFault>
     ensures count { IfOk result (λ count. count ≡ count_in buf.new) }
     ensures shaped { IfOk result (λ count. IsShaped kind buf.new) }
-    ensures own { IfOk result (λ count. number_of buf.new ≡ page) }
+    ensures own { IfOk result (λ count. IsPage kind page buf.new) }
     ensures bytes { OnOk result (IsTrue (P.view pages.old).is_told → buf.new ≡ (P.view pages.old).page page) }
     ensures fault { IfErr result NoMemory }
     ensures unfit { IfErr result (Unfit kind page ((P.view pages.old).page page) (P.view pages.old).is_told) }
@@ -47,6 +48,7 @@ pub fn part(right: &mut [u8; 4096], kind: Kind) -> [u8; 32]
     ensures ends { SplitEnds kind (key_of result) right.new }
     ensures count { count_in right.new ≡ count_in right.old }
     ensures form { (n : ℕ) → IsForm kind n right.old → IsForm kind n right.new }
+    ensures byte { slice_index right.new 0 ≡ slice_index right.old 0 }
 {
     let key = first_key(right, kind);
     match kind {
@@ -73,7 +75,8 @@ fn split<P: Pages>(
     requires fits { IsFitting kind value }
     ensures adds { IsTrue (P.view pages.old).is_told → IsForm kind page left.old
         → Adds kind page (inserted n (record { key = key_of key.now; value = value }) (pairs_in kind left.old)) (P.view pages.old) (P.view pages.new) result }
-    ensures rises { OnOk result (IsTrue (P.view pages.old).is_told → Rises 1 (P.view pages.old) (P.view pages.new)) }
+    ensures along { OnOk result (IsTrue (P.view pages.old).is_told → left.old ≡ (P.view pages.old).page page → IsOfKind kind left.old
+        → TakesAlong 1 (P.view pages.old) (P.view pages.new)) }
     ensures damaged { IsTrue (P.view pages.old).is_told → IsTakeDamage (P.view pages.old) result }
     ensures split { IfKept result ⊥ }
     ensures counts { Counts 1 3 (P.view pages.old) (P.view pages.new) }
@@ -115,7 +118,7 @@ pub fn add_entry<P: Pages>(
         → Adds kind page (inserted n (record { key = key_of key.now; value = value }) (pairs_in kind ((P.view pages.old).page page))) (P.view pages.old) (P.view pages.new) result }
     ensures damaged { IsTrue (P.view pages.old).is_told → IsForm kind page ((P.view pages.old).page page) → n ≤ count_in ((P.view pages.old).page page)
         → IsTakeDamage (P.view pages.old) result }
-    ensures rises { OnOk result (IsTrue (P.view pages.old).is_told → Rises 1 (P.view pages.old) (P.view pages.new)) }
+    ensures along { OnOk result (IsTrue (P.view pages.old).is_told → TakesAlong 1 (P.view pages.old) (P.view pages.new)) }
     ensures names { IsTrue (P.view pages.old).is_told → AddNames kind page n (P.view pages.old) (P.view pages.new) result }
     ensures light { IfKept result ((P.view pages.new).reads ≤ (P.view pages.old).reads + 1) }
     ensures counts { Counts 2 3 (P.view pages.old) (P.view pages.new) }

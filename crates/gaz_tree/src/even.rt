@@ -1,7 +1,8 @@
 //! A leaf that has become full, and the one before it.
 ghost use Rattle.std.specs.Prelude.{◌≡◌, ◌≤◌, ◌<◌, ◌+◌, ◌^◌, ℕ, List, false, IsTrue, IfOk, IfErr, OnOk};
 ghost use Rattle.gaz_page.specs.Pages.{HasPageCause, HasReads, Counts, NotDamaged};
-ghost use Rattle.gaz_leaf.specs.Node.{pairs_in, count_of as count_in, IsForm, IsShaped};
+ghost use Rattle.gaz_page.specs.Chains.{TakesAlong};
+ghost use Rattle.gaz_leaf.specs.Node.{pairs_in, count_of as count_in, IsForm, IsShaped, IsOfKind};
 ghost use Rattle.gaz_tree.specs.Remove.{NamesChild, NamesLeaf, Evens, EvensBefore};
 
 use crate::add::load;
@@ -36,6 +37,8 @@ fn even_two<P: Pages>(
     requires parent_shaped { IsShaped Kind.Inner parent.old }
     requires within { i + 1 < count_in parent.old }
     ensures evens { OnOk result (IsTrue (P.view pages.old).is_told → parent.old ≡ (P.view pages.old).page page → Evens page i (P.view pages.old) (P.view pages.new)) }
+    ensures along { OnOk result (IsTrue (P.view pages.old).is_told → parent.old ≡ (P.view pages.old).page page → IsOfKind Kind.Inner parent.old
+        → TakesAlong 0 (P.view pages.old) (P.view pages.new)) }
     ensures names { IsTrue (P.view pages.old).is_told → NamesChild Kind.Leaf (pairs_in Kind.Inner parent.old) (P.view pages.old).page (P.view pages.new).page result }
     ensures counts { Counts 2 3 (P.view pages.old) (P.view pages.new) }
     ensures cause { HasPageCause (P.view pages.old) (P.view pages.new) result }
@@ -65,6 +68,7 @@ fn even_before<P: Pages>(pages: &mut P, page: u32, place: usize) -> Result<(), P
     requires may_change { (P.view pages.old).is_read_only ≡ false }
     requires some { 0 < place }
     ensures evens { OnOk result (IsTrue (P.view pages.old).is_told → EvensBefore page place (P.view pages.old) (P.view pages.new)) }
+    ensures along { OnOk result (IsTrue (P.view pages.old).is_told → TakesAlong 0 (P.view pages.old) (P.view pages.new)) }
     ensures names { IsTrue (P.view pages.old).is_told → NamesLeaf page place (P.view pages.old).page (P.view pages.new).page result }
     ensures counts { Counts 3 3 (P.view pages.old) (P.view pages.new) }
     ensures cause { HasPageCause (P.view pages.old) (P.view pages.new) result }
@@ -86,6 +90,7 @@ fn even_before<P: Pages>(pages: &mut P, page: u32, place: usize) -> Result<(), P
 pub fn even_out<P: Pages>(pages: &mut P, page: u32, way: Way) -> Result<(), PageFault>
     requires may_change { (P.view pages.old).is_read_only ≡ false }
     ensures evens { OnOk result (IsTrue (P.view pages.old).is_told → EvensBefore page way.place (P.view pages.old) (P.view pages.new)) }
+    ensures along { OnOk result (IsTrue (P.view pages.old).is_told → TakesAlong 0 (P.view pages.old) (P.view pages.new)) }
     ensures names { IsTrue (P.view pages.old).is_told → NamesLeaf page way.place (P.view pages.old).page (P.view pages.new).page result }
     ensures counts { Counts 4 3 (P.view pages.old) (P.view pages.new) }
     ensures cause { HasPageCause (P.view pages.old) (P.view pages.new) result }

@@ -1,7 +1,8 @@
 //! Two neighbours of a level, of which one has an entry too few.
 ghost use Rattle.std.specs.Prelude.{◌≡◌, ◌≤◌, ◌<◌, ◌+◌, ◌⊎◌, ◌^◌, ℕ, false, List, ◌++◌, length, IsTrue, IfOk, IfErr, OnOk};
 ghost use Rattle.gaz_page.specs.Pages.{HasPageCause, Counts, NotDamaged};
-ghost use Rattle.gaz_leaf.specs.Node.{key_of, entry_at, capacity, pairs_in, count_of as count_in, IsShaped, IsForm};
+ghost use Rattle.gaz_page.specs.Chains.{IsNoFree, TakesAlong};
+ghost use Rattle.gaz_leaf.specs.Node.{key_of, entry_at, capacity, pairs_in, count_of as count_in, IsShaped, IsForm, IsOfKind};
 ghost use Rattle.gaz_tree.specs.Tree.{least as least_in};
 ghost use Rattle.gaz_tree.specs.Remove.{child_in, key_in_page, raised, both_in, Mends, IsShared, IsMendedAt, IsMended, NamesChild, NamesPageOrChild};
 
@@ -85,6 +86,9 @@ pub fn share_pages<P: Pages>(
         → ((n : ℕ) → IsForm kind n ((P.view pages.old).page (child_in parent.old (i + 1))) → IsForm kind n right.old)
         → pairs_in kind left.old ++ pairs_in kind right.old ≡ both_in kind (P.view pages.old).page parent.old i
         → IsShared kind page i (P.view pages.old) (P.view pages.new)) }
+    ensures along { OnOk result (IsTrue (P.view pages.old).is_told → IsNoFree (P.view pages.old) page → IsNoFree (P.view pages.old) (child_in parent.old i)
+        → IsNoFree (P.view pages.old) (child_in parent.old (i + 1)) → IsOfKind Kind.Inner parent.old → IsOfKind kind left.old → IsOfKind kind right.old
+        → TakesAlong 0 (P.view pages.old) (P.view pages.new)) }
     ensures fault { IfErr result NotDamaged }
     ensures counts { Counts 0 3 (P.view pages.old) (P.view pages.new) }
     ensures cause { HasPageCause (P.view pages.old) (P.view pages.new) result }

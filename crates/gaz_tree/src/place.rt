@@ -2,12 +2,13 @@
 ghost use Rattle.std.specs.Prelude.{◌≡◌, ◌≤◌, ◌<◌, ◌+◌, ◌^◌, ℕ, false, List, length, IsTrue, IfOk, IfErr, OnOk};
 ghost use Rattle.std.specs.Prelude.{◌∷◌, ◌++◌, take, drop};
 ghost use Rattle.gaz_page.specs.Pages.{HasPageCause, Counts};
-ghost use Rattle.gaz_leaf.specs.Node.{Pair, key_in, key_of, pairs_in, count_of as count_in, number_of, IsForm};
+ghost use Rattle.gaz_leaf.specs.Node.{Pair, key_in, key_of, pairs_in, count_of as count_in, IsForm, IsPage};
 ghost use Rattle.gaz_tree.specs.Pairs.{Within};
 ghost use Rattle.gaz_tree.specs.Tree.{leaf_of};
 ghost use Rattle.gaz_page.specs.Pages.{HasReads, NoMemory, NotDamaged};
 ghost use Rattle.gaz_tree.specs.Calls.{Names, NamesSince};
-ghost use Rattle.gaz_tree.specs.Put.{Places, IsPlaceOf, IsAdded, Rises};
+ghost use Rattle.gaz_page.specs.Chains.{TakesAlong};
+ghost use Rattle.gaz_tree.specs.Put.{Places, IsPlaceOf, IsAdded};
 
 use crate::add::load;
 use gaz_leaf::{Key, Kind, first_above, is_page, key_at, replace, value_at};
@@ -31,7 +32,7 @@ fn place_in(bytes: &[u8], page: u32, key: Key, value: u64) -> Result<Place, Page
         → Places (pairs_in Kind.Leaf bytes.now) (record { key = key_in key; value = value }) result }
     ensures within { IfOk result (λ place. IsPlaceOf (count_in bytes.now) place) }
     ensures damaged { IfErr result (λ fault. fault ≡ PageFault.Damaged page) }
-    ensures own { IfOk result (λ place. number_of bytes.now ≡ page) }
+    ensures own { IfOk result (λ place. IsPage Kind.Leaf page bytes.now) }
     ensures unfit { IfErr result (λ fault. IsForm Kind.Leaf page bytes.now → ⊥) }
 {
     if !is_page(bytes, Kind::Leaf, page) {
@@ -61,6 +62,7 @@ pub fn read_place<P: Pages>(
         → Within low high (leaf_of (P.view pages.old).page page) → low ≤ key_in key → key_in key < high
         → Places (leaf_of (P.view pages.old).page page) (record { key = key_in key; value = value }) result }
     ensures within { IfOk result (λ place. IsTrue (P.view pages.old).is_told → IsPlaceOf (count_in ((P.view pages.old).page page)) place) }
+    ensures own { IfOk result (λ place. IsTrue (P.view pages.old).is_told → IsPage Kind.Leaf page ((P.view pages.old).page page)) }
     ensures names { IsTrue (P.view pages.old).is_told → Names (P.view pages.old).page 0 page result }
     ensures fault { IfErr result NoMemory }
     ensures reads { HasReads 1 (P.view pages.old) (P.view pages.new) result }
@@ -85,7 +87,7 @@ pub fn put_over<P: Pages>(
         → IsAdded Kind.Leaf page (take n (leaf_of (P.view pages.old).page page) ++ record { key = key_of key.now; value = value } ∷ drop (n + 1) (leaf_of (P.view pages.old).page page)) (P.view pages.old) (P.view pages.new)) }
     ensures fine { IsTrue (P.view pages.old).is_told → IsForm Kind.Leaf page ((P.view pages.old).page page) → n < count_in ((P.view pages.old).page page)
         → IfErr result NotDamaged }
-    ensures rises { OnOk result (IsTrue (P.view pages.old).is_told → Rises 0 (P.view pages.old) (P.view pages.new)) }
+    ensures along { OnOk result (IsTrue (P.view pages.old).is_told → TakesAlong 0 (P.view pages.old) (P.view pages.new)) }
     ensures names { IsTrue (P.view pages.old).is_told → n < count_in ((P.view pages.old).page page) → NamesSince (P.view pages.old).page (P.view pages.new).page 0 page result }
     ensures counts { Counts 1 1 (P.view pages.old) (P.view pages.new) }
     ensures cause { HasPageCause (P.view pages.old) (P.view pages.new) result }

@@ -1,9 +1,11 @@
 //! One pair put into a tree.
 ghost use Rattle.std.specs.Prelude.{◌≡◌, ◌≤◌, ◌<◌, ◌+◌, ◌*◌, ◌^◌, ℕ, false, List, length, IsTrue, IfOk, IfErr, OnOk};
 ghost use Rattle.gaz_page.specs.Pages.{HasPageCause, Counts};
-ghost use Rattle.gaz_leaf.specs.Node.{Pair, key_in, key_of};
+ghost use Rattle.gaz_leaf.specs.Node.{Pair, key_in, key_of, IsPage};
 ghost use Rattle.gaz_tree.specs.Tree.{IsHead, Reaches};
-ghost use Rattle.gaz_tree.specs.Put.{HasChain, IsTaken, Puts, PutNames, Rises, IfKept};
+ghost use Rattle.gaz_page.specs.Chains.{TakesAlong};
+ghost use Rattle.gaz_tree.specs.Calls.{LeadsDown};
+ghost use Rattle.gaz_tree.specs.Put.{HasChain, IsTaken, Puts, PutNames, IfKept};
 
 use crate::add::add_entry;
 use crate::even::even_out;
@@ -24,7 +26,8 @@ fn put_leaf<P: Pages>(
     ensures puts { IsTrue (P.view pages.old).is_told → (low high : ℕ) → IsHead (P.view pages.old).page 0 page low high → low ≤ key_of key.now → key_of key.now < high
         → IsTaken (P.view pages.old).fresh page → HasChain (P.view pages.old)
         → Puts (P.view pages.old) (P.view pages.new) 0 page low high (record { key = key_of key.now; value = value }) result }
-    ensures rises { OnOk result (IsTrue (P.view pages.old).is_told → Rises 1 (P.view pages.old) (P.view pages.new)) }
+    ensures along { OnOk result (IsTrue (P.view pages.old).is_told → TakesAlong 1 (P.view pages.old) (P.view pages.new)) }
+    ensures own { OnOk result (IsTrue (P.view pages.old).is_told → IsPage Kind.Leaf page ((P.view pages.old).page page)) }
     ensures names { IsTrue (P.view pages.old).is_told → PutNames (P.view pages.old) (P.view pages.new) 0 page result }
     ensures light { IfKept result ((P.view pages.new).reads ≤ (P.view pages.old).reads + 2) }
     ensures counts { Counts 3 3 (P.view pages.old) (P.view pages.new) }
@@ -55,7 +58,8 @@ pub fn put_below<P: Pages>(
     ensures puts { IsTrue (P.view pages.old).is_told → (low high : ℕ) → IsHead (P.view pages.old).page level page low high → low ≤ key_of key.now → key_of key.now < high
         → ((n : ℕ) → Reaches (P.view pages.old).page level page n → IsTaken (P.view pages.old).fresh n) → HasChain (P.view pages.old)
         → Puts (P.view pages.old) (P.view pages.new) level page low high (record { key = key_of key.now; value = value }) result }
-    ensures rises { OnOk result (IsTrue (P.view pages.old).is_told → Rises (level + 1) (P.view pages.old) (P.view pages.new)) }
+    ensures along { OnOk result (IsTrue (P.view pages.old).is_told → TakesAlong (level + 1) (P.view pages.old) (P.view pages.new)) }
+    ensures down { OnOk result (IsTrue (P.view pages.old).is_told → LeadsDown (P.view pages.old).page (λ leaf. Unit) level page) }
     ensures names { IsTrue (P.view pages.old).is_told → PutNames (P.view pages.old) (P.view pages.new) level page result }
     ensures light { IfKept result (level ≡ 0 → (P.view pages.new).reads ≤ (P.view pages.old).reads + 2) }
     ensures counts { Counts (3 * (level + 1) + 1) (3 * (level + 1)) (P.view pages.old) (P.view pages.new) }

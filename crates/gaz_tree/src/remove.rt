@@ -1,11 +1,11 @@
 //! One key taken out of a tree.
 ghost use Rattle.std.specs.Prelude.{◌≡◌, ◌≤◌, ◌<◌, ◌+◌, ◌*◌, ◌^◌, ℕ, false, List, length, IsTrue, IfOk, IfErr, OnOk};
 ghost use Rattle.gaz_page.specs.Pages.{HasPageCause, Counts, NotDamaged};
-ghost use Rattle.gaz_leaf.specs.Node.{key_in};
+ghost use Rattle.gaz_leaf.specs.Node.{key_in, IsPage};
 ghost use Rattle.gaz_tree.specs.Tree.{kind_at, IsHead, HasTwo, Reaches};
 ghost use Rattle.gaz_tree.specs.Put.{HasChain, IsTaken};
 ghost use Rattle.gaz_tree.specs.Remove.{Removes};
-ghost use Rattle.gaz_tree.specs.Calls.{NamesSince};
+ghost use Rattle.gaz_tree.specs.Calls.{LeadsDown, NamesSince};
 
 use crate::add::load;
 use crate::get::read_way;
@@ -20,6 +20,7 @@ fn remove_leaf<P: Pages>(pages: &mut P, page: u32, key: Key) -> Result<Shrunk, P
     ensures removes { IsTrue (P.view pages.old).is_told → (low high : ℕ) → IsHead (P.view pages.old).page 0 page low high → low ≤ key_in key → key_in key < high
         → HasChain (P.view pages.old) → Removes (P.view pages.old) (P.view pages.new) 0 page low high (key_in key) result }
     ensures fine { IsTrue (P.view pages.old).is_told → (low high : ℕ) → IsHead (P.view pages.old).page 0 page low high → IfErr result NotDamaged }
+    ensures own { OnOk result (IsTrue (P.view pages.old).is_told → IsPage Kind.Leaf page ((P.view pages.old).page page)) }
     ensures names { IsTrue (P.view pages.old).is_told → NamesSince (P.view pages.old).page (P.view pages.new).page 0 page result }
     ensures counts { Counts 1 1 (P.view pages.old) (P.view pages.new) }
     ensures cause { HasPageCause (P.view pages.old) (P.view pages.new) result }
@@ -69,6 +70,7 @@ pub fn remove_below<P: Pages>(
     ensures fine { IsTrue (P.view pages.old).is_told → (low high : ℕ) → IsHead (P.view pages.old).page level page low high → HasTwo (P.view pages.old).page level page
         → low ≤ key_in key → key_in key < high → ((n : ℕ) → Reaches (P.view pages.old).page level page n → IsTaken (P.view pages.old).fresh n) → HasChain (P.view pages.old)
         → IfErr result NotDamaged }
+    ensures down { OnOk result (IsTrue (P.view pages.old).is_told → LeadsDown (P.view pages.old).page (λ leaf. Unit) level page) }
     ensures names { IsTrue (P.view pages.old).is_told → NamesSince (P.view pages.old).page (P.view pages.new).page level page result }
     ensures counts { Counts (4 * (level + 1)) (3 * level + 1) (P.view pages.old) (P.view pages.new) }
     ensures cause { HasPageCause (P.view pages.old) (P.view pages.new) result }

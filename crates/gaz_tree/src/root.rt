@@ -1,6 +1,7 @@
 //! A topmost page over two others.
 ghost use Rattle.std.specs.Prelude.{◌≡◌, ◌≤◌, ◌<◌, ◌+◌, ◌^◌, ℕ, false, List, length, IsTrue, IfOk, IfErr, OnOk};
 ghost use Rattle.gaz_page.specs.Pages.{HasPageCause, Counts};
+ghost use Rattle.gaz_page.specs.Chains.{TakesAlong};
 ghost use Rattle.gaz_tree.specs.Put.{IsTakeDamage};
 ghost use Rattle.gaz_tree.specs.Stands.{IsRooted};
 
@@ -12,6 +13,7 @@ use gaz_page::{PageFault, Pages};
 pub fn grow<P: Pages>(pages: &mut P, top: u32, half: Half) -> Result<u32, PageFault>
     requires may_change { (P.view pages.old).is_read_only ≡ false }
     ensures rooted { IfOk result (λ number. IsTrue (P.view pages.old).is_told → IsRooted (P.view pages.old) (P.view pages.new) top half number) }
+    ensures along { OnOk result (IsTrue (P.view pages.old).is_told → TakesAlong 1 (P.view pages.old) (P.view pages.new)) }
     ensures damaged { IsTrue (P.view pages.old).is_told → IsTakeDamage (P.view pages.old) result }
     ensures counts { Counts 1 2 (P.view pages.old) (P.view pages.new) }
     ensures cause { HasPageCause (P.view pages.old) (P.view pages.new) result }

@@ -1,14 +1,13 @@
 //! A tree by its topmost page.
-ghost use Rattle.std.specs.Prelude.{◌≡◌, ◌≤◌, ℕ, List, IsTrue, IfErr, slice_index};
+ghost use Rattle.std.specs.Prelude.{◌≡◌, ◌≤◌, ◌+◌, ◌-◌, ◌*◌, ◌<◌, ℕ, List, [], false, IsTrue, IfOk, IfErr, OnOk, OnErr};
+ghost use Rattle.gaz_page.specs.Pages.{HasPageCause, HasReads, Counts, IsDamaged, NoMemory, NotDamaged, damage};
+ghost use Rattle.gaz_page.specs.Chains.{TakesAlong};
 ghost use Rattle.gaz_leaf.specs.Node.{Pair, key_of};
-ghost use Rattle.std.specs.Prelude.{false, ◌^◌, ◌<◌, [], Some, IfOk, OnOk, OnErr};
-ghost use Rattle.gaz_page.specs.Pages.{HasPageCause, Counts, SamePages, IsDamaged, damage};
-ghost use Rattle.gaz_tree.specs.Pairs.{lookup, put};
+ghost use Rattle.gaz_tree.specs.Pairs.{lookup};
 ghost use Rattle.gaz_tree.specs.Put.{Changes, HasChain, TakesFew, Trades};
-ghost use Rattle.gaz_tree.specs.Stands.{OfTree, Stands, PutDamage, PutNamesOf, IsWithout};
-ghost use Rattle.gaz_tree.specs.Tree.{IsTop};
-ghost use Rattle.gaz_page.specs.Pages.{HasReads, NoMemory, NotDamaged};
-ghost use Rattle.gaz_tree.specs.Calls.{IsGot, NamesOf, NamesSinceOf};
+ghost use Rattle.gaz_tree.specs.Stands.{OfTree, Stands, PutDamage, PutNamesOf, IsWith, IsWithout};
+ghost use Rattle.gaz_tree.specs.Tree.{IsTop, leaf_of};
+ghost use Rattle.gaz_tree.specs.Calls.{IsGot, LeadsDown, NamesOf, NamesSinceOf, StandsIn};
 
 use crate::add::load;
 use crate::get::get_below;
@@ -57,6 +56,9 @@ impl Tree {
     pub fn get<P: Pages>(self, pages: &mut P, key: &[u8; 32]) -> Result<Option<u64>, PageFault>
         ensures got { IsTrue (P.view pages.old).is_told → (pairs : List Pair) → IsTop (P.view pages.old).page self.height self.top pairs
             → IsGot (lookup (key_of key.now) pairs) result }
+        // Whatever the pages are, each one that was gone through has its kind and its own number, and a value stands with its key in the leaf.
+        ensures down { IfOk result (λ found. IsTrue (P.view pages.old).is_told
+            → LeadsDown (P.view pages.old).page (λ leaf. StandsIn (leaf_of (P.view pages.old).page leaf) (key_of key.now) found) (self.height - 1) self.top) }
         ensures names { IsTrue (P.view pages.old).is_told → NamesOf (P.view pages.old).page self.height self.top result }
         ensures fault { IfErr result NoMemory }
         ensures reads { HasReads self.height (P.view pages.old) (P.view pages.new) result }
@@ -78,21 +80,15 @@ impl Tree {
     ) -> Result<(), PageFault>
         requires may_change { (P.view pages.old).is_read_only ≡ false }
         ensures put { OnOk result (IsTrue (P.view pages.old).is_told → (pairs : List Pair) → Stands (P.view pages.old) self.old pairs
-            → Stands (P.view pages.new) self.new (put (record { key = key_of key.now; value = value }) pairs)) }
-        ensures same { OnOk result (IsTrue (P.view pages.old).is_told → (pairs : List Pair) → Stands (P.view pages.old) self.old pairs → lookup (key_of key.now) pairs ≡ Some value
-            → SamePages (P.view pages.old) (P.view pages.new) × ((P.view pages.new).changed ≡ (P.view pages.old).changed)) }
-        ensures others { OnOk result (IsTrue (P.view pages.old).is_told → (pairs : List Pair) → Stands (P.view pages.old) self.old pairs
-            → Changes (OfTree (P.view pages.old).page self.old) (P.view pages.old) (P.view pages.new)) }
-        // The pages of the tree and the free ones are those of before and those newly taken. Only pages of the tree change.
-        ensures trades { OnOk result (IsTrue (P.view pages.old).is_told → (pairs : List Pair) → Stands (P.view pages.old) self.old pairs
-            → Trades (OfTree (P.view pages.old).page self.old) (OfTree (P.view pages.new).page self.new) (P.view pages.old) (P.view pages.new)) }
-        // At most seven pages are taken.
-        ensures takes { OnOk result (IsTrue (P.view pages.old).is_told → (pairs : List Pair) → Stands (P.view pages.old) self.old pairs
-            → TakesFew 7 (P.view pages.old) (P.view pages.new)) }
+            → IsWith (P.view pages.old) (P.view pages.new) self.old self.new (record { key = key_of key.now; value = value }) pairs) }
         ensures damaged { IsTrue (P.view pages.old).is_told → (pairs : List Pair) → Stands (P.view pages.old) self.old pairs → PutDamage (P.view pages.old) self.old pairs result }
+        // Whatever the pages are, those that were taken are as the free chain leads, and each one that was gone through has its kind and its own number.
+        ensures along { OnOk result (IsTrue (P.view pages.old).is_told → TakesAlong (self.old.height + 1) (P.view pages.old) (P.view pages.new)) }
+        ensures down { OnOk result (IsTrue (P.view pages.old).is_told → LeadsDown (P.view pages.old).page (λ leaf. Unit) (self.old.height - 1) self.old.top) }
         ensures names { IsTrue (P.view pages.old).is_told → PutNamesOf (P.view pages.old) (P.view pages.new) self.old result }
         ensures left { OnErr result (self.new ≡ self.old) }
-        ensures counts { self.old.height ≤ 6 → Counts 20 20 (P.view pages.old) (P.view pages.new) }
+        ensures low { self.old.height ≤ 6 → self.new.height ≤ 6 }
+        ensures counts { Counts (3 * self.old.height + 2) (3 * self.old.height + 2) (P.view pages.old) (P.view pages.new) }
         ensures cause { HasPageCause (P.view pages.old) (P.view pages.new) result }
         ensures keeps { P.keeps pages.old pages.new }
     {
@@ -127,9 +123,12 @@ impl Tree {
         ensures removed { IfOk result (λ found. IsTrue (P.view pages.old).is_told → (pairs : List Pair) → Stands (P.view pages.old) self.old pairs
             → IsWithout (P.view pages.old) (P.view pages.new) self.old self.new (key_of key.now) pairs found) }
         ensures damaged { IsTrue (P.view pages.old).is_told → (pairs : List Pair) → Stands (P.view pages.old) self.old pairs → IfErr result NotDamaged }
+        // Whatever the pages are, each one that was gone through has its kind and its own number.
+        ensures down { OnOk result (IsTrue (P.view pages.old).is_told → LeadsDown (P.view pages.old).page (λ leaf. Unit) (self.old.height - 1) self.old.top) }
         ensures names { IsTrue (P.view pages.old).is_told → NamesSinceOf (P.view pages.old).page (P.view pages.new).page self.old.height self.old.top result }
         ensures left { OnErr result (self.new ≡ self.old) }
-        ensures counts { self.old.height ≤ 6 → Counts 25 20 (P.view pages.old) (P.view pages.new) }
+        ensures low { self.new.height ≤ self.old.height }
+        ensures counts { Counts (4 * self.old.height + 1) (3 * self.old.height + 2) (P.view pages.old) (P.view pages.new) }
         ensures cause { HasPageCause (P.view pages.old) (P.view pages.new) result }
         ensures keeps { P.keeps pages.old pages.new }
     {

@@ -6,7 +6,7 @@ use Rattle.gaz_heap.proofs.Asked.{told_still}
 use Rattle.gaz_heap.proofs.Changed.{changed_none, changed_more}
 use Rattle.gaz_heap.proofs.LongPuts.{Chaining, chaining_none, chaining_more, long_puts}
 use Rattle.gaz_heap.proofs.UsedUp.{piece_fails}
-use Rattle.gaz_heap.proofs.Passing.{passing_none, passing_more, piece_names}
+use Rattle.gaz_heap.proofs.Passing.{along_none, along_piece, piece_names}
 use Rattle.gaz_heap.proofs.long.put_long.Goals as goal
 
 -- the last piece and what follows it
@@ -41,7 +41,7 @@ loop-turn-init g c = record {
   end = omega arith;
   room = omega arith;
   whole = λ no_. absurd (no_ refl);
-  passing = λ told. passing_none (g.P.Pages.view c.args.pages.now);
+  along = λ told. along_none (g.P.Pages.view c.args.pages.now);
   pieces = λ told free least chain.
       let v = g.P.Pages.view c.args.pages.now in
       subst (λ (l : List ℕ). Chaining v v free 0 0 l) (sym (drop_all (length c.args.bytes.now) c.args.bytes.now (omega arith))) (chaining_none v free chain);
@@ -66,7 +66,7 @@ loop-turn-preserved g c =
       end = omega (arith, e.below, i.end);
       room = room_less end from t e.whole e.below i.room c.loop-turn-test.true;
       whole = λ no_. whole_from end from e.whole;
-      passing = λ told. passing_more old now new c.in-Ok.number c.loop-turn.next t piece (i.passing told) (c.in-Ok.ensures.stores (told_still old now i.changed.counts.told told));
+      along = λ told. along_piece old now new c.in-Ok.number c.loop-turn.next t piece (i.along told) (c.in-Ok.ensures.stores (told_still old now i.changed.counts.told told));
       pieces = λ told free least chain.
           let still = told_still old now i.changed.counts.told told in
           let size : t ≢ 0 → length piece ≡ 4080 = λ later. full_piece end from bytes e.whole e.below i.end (i.whole later) in
@@ -127,4 +127,4 @@ returns-in-Err-clause-named g c told =
     let now = (g.P.Pages.view c.loop-turn.pages) in
     let from = c.piece_before-from.result in
     let piece = take (c.loop-turn.end - from) (drop from c.args.bytes.now) in
-    piece_names old now (g.P.Pages.view c.store_piece.new.pages) c.loop-turn._turn c.loop-turn.next piece c.in-Err.fault (i.passing told) c.loop-turn-test.true (c.in-Err.ensures.stores (told_still old now i.changed.counts.told told))
+    piece_names old now (g.P.Pages.view c.store_piece.new.pages) c.loop-turn._turn c.loop-turn.next piece c.in-Err.fault (i.along told) c.loop-turn-test.true (c.in-Err.ensures.stores (told_still old now i.changed.counts.told told))

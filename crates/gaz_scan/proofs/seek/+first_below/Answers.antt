@@ -3,6 +3,9 @@ use Rattle.std.specs.Prelude.{IsTrue, Err}
 use Rattle.gaz_scan.specs.Seek.{NamesUnder}
 use Rattle.gaz_scan.proofs.Finds.{first_answered}
 use Rattle.gaz_scan.proofs.Places.{under_child, under_failed}
+use Rattle.gaz_tree.proofs.Removes.{ok_map}
+use Rattle.gaz_tree.proofs.Down.{down_step}
+use Rattle.gaz_scan.proofs.Downs.{leaf_all}
 use Rattle.gaz_scan.proofs.seek.+first_below.Goals as goal
 
 pub returns-in-Ok-clause-first : goal.returns-in-Ok-clause-first
@@ -37,3 +40,19 @@ returns-in-Err-clause-names g t c told most lt =
     let next : suc (c.args.level - 1) ≡ c.args.level = omega arith in
     under_failed ℕ Unit (g.P.Pages.view c.args.pages.now).page most c.args.level c.args.page c.in-Err.fault
     (subst (λ (l : ℕ). NamesUnder {T = ℕ} (g.P.Pages.view c.args.pages.now).page most l c.args.page (Err c.in-Err.fault)) next (c.in-Err.ensures.names told most (c.args.level - 1) (omega arith)))
+
+pub returns-then-level-eq0-clause-down : goal.returns-then-level-eq0-clause-down
+returns-then-level-eq0-clause-down g t c =
+    let v = g.P.Pages.view c.args.pages.now in
+    leaf_all (IsTrue v.is_told) v.page c.args.level c.args.page c.copy_all.new.copied.bytes c.copy_all.result c.if-level-eq0.true c.copy_all.ensures.own c.copy_all.ensures.shows
+
+pub returns-in-Ok-clause-down : goal.returns-in-Ok-clause-down
+returns-in-Ok-clause-down g t c = ok_map _ _ c.first_below.result (λ down told.
+    let v = g.P.Pages.view in
+    let reads = c.in-Ok.ensures.reads in
+    let still : IsTrue (v c.read_first.new.pages).is_told = subst IsTrue (sym reads.counts.told) told in
+    let some = c.if-level-eq0.false in
+    let next : c.args.level ≡ suc (c.args.level - 1) = omega arith in
+    down_step (λ m leaf. c.first_below.new.copied.bytes ≡ m leaf) (v c.args.pages.now).page (v c.read_first.new.pages).page c.args.level (c.args.level - 1) c.args.page c.in-Ok.child next
+    (reads.same (λ failed. failed) told).pages (c.in-Ok.ensures.own told) (c.in-Ok.ensures.child told) (down still))
+    c.first_below.ensures.down

@@ -5,6 +5,7 @@ use Rattle.gaz_leaf.specs.Node.{count_of, pairs_in}
 use Rattle.gaz_tree.proofs.Removes.{ok_map}
 use Rattle.gaz_tree.proofs.Evened.{even_before_over, leaf_page_unfit, leaf_or_page}
 use Rattle.gaz_tree.proofs.Named.{read_same}
+use Rattle.gaz_tree.proofs.Along.{along_over}
 use Rattle.gaz_tree.proofs.even.even_before.Goals as goal
 
 pub returns-clause-evens : goal.returns-clause-evens
@@ -46,3 +47,13 @@ returns-clause-names g c told =
     let still : IsTrue mid.is_told = subst IsTrue (sym reads.counts.told) told in
     leaf_or_page c.args.page c.args.place (pairs_in Inner c.load.new.buf) old.page mid.page (v c.even_two.new.pages).page c.even_two.result
     (reads.same (λ failed. failed) told).pages (ap (pairs_in Inner) (c.in-Ok.ensures.bytes told)) (c.even_two.ensures.names still)
+
+pub returns-clause-along : goal.returns-clause-along
+returns-clause-along g c = ok_map _ _ c.even_two.result (λ along told.
+    let v = g.P.Pages.view in
+    let reads = c.in-Ok.ensures.reads in
+    let same = reads.same (λ failed. failed) told in
+    let still : IsTrue (v c.load.new.pages).is_told = subst IsTrue (sym reads.counts.told) told in
+    along_over 0 (v c.args.pages.now) (v c.load.new.pages) (v c.even_two.new.pages) same
+    (along still (c.in-Ok.ensures.bytes told ∙ (λ j. sym same.pages j c.args.page)) c.in-Ok.ensures.own.0))
+    c.even_two.ensures.along

@@ -6,6 +6,7 @@ use Rattle.gaz_tree.specs.declared.way.Way.{Way}
 use Rattle.gaz_tree.specs.Calls.{Names}
 use Rattle.gaz_tree.proofs.Gets.{steps_down, got_over}
 use Rattle.gaz_tree.proofs.Named.{names_below, names_failed}
+use Rattle.gaz_tree.proofs.Down.{found_down, found_leaf}
 use Rattle.gaz_tree.proofs.get.+get_below.Goals as goal
 
 pub returns-in-Ok-clause-got : goal.returns-in-Ok-clause-got
@@ -42,3 +43,16 @@ returns-in-Err-clause-names g t c told =
     let next : suc (c.args.level - 1) ≡ c.args.level = omega arith in
     names_failed Way (Option ℕ) (g.P.Pages.view c.args.pages.now).page c.args.level c.args.page c.in-Err.fault
     (subst (λ (l : ℕ). Names {T = Way} (g.P.Pages.view c.args.pages.now).page l c.args.page (Err c.in-Err.fault)) next (c.in-Err.ensures.names told (c.args.level - 1)))
+
+pub returns-then-level-eq0-clause-down : goal.returns-then-level-eq0-clause-down
+returns-then-level-eq0-clause-down g t c =
+    found_leaf (g.P.Pages.view c.args.pages.now) (key_in c.args.key) c.args.level c.args.page c.read_value.result c.if-level-eq0.true c.read_value.ensures.own c.read_value.ensures.there
+
+pub returns-in-Ok-clause-down : goal.returns-in-Ok-clause-down
+returns-in-Ok-clause-down g t c =
+    let v = g.P.Pages.view in
+    let reads = c.in-Ok.ensures.reads in
+    let some = c.if-level-eq0.false in
+    let next : c.args.level ≡ suc (c.args.level - 1) = omega arith in
+    found_down (v c.args.pages.now) (v c.read_way.new.pages) (key_in c.args.key) c.args.level (c.args.level - 1) c.args.page c.in-Ok.way.child c.get_below.result next
+    (λ told. (reads.same (λ failed. failed) told).pages) reads.counts.told c.in-Ok.ensures.own c.in-Ok.ensures.child c.get_below.ensures.down

@@ -11,6 +11,9 @@ use Rattle.gaz_tree.specs.Put.{IsPlaceOf}
 use Rattle.gaz_tree.proofs.PutNamed.{put_leaf_added}
 use Rattle.gaz_tree.proofs.Apart.{length_pairs}
 use Rattle.gaz_tree.proofs.Answered.{leaf_answered, leaf_over, no_damage}
+use Rattle.gaz_page.proofs.Takes.{along_same, along_more}
+use Rattle.gaz_tree.proofs.Removes.{ok_map, ok_of}
+use Rattle.gaz_tree.proofs.Along.{along_over}
 use Rattle.gaz_tree.proofs.put.put_leaf.Goals as goal
 
 pub returns-in-Ok-clause-puts : goal.returns-in-Ok-clause-puts
@@ -92,3 +95,31 @@ returns-in-Ok-Between-clause-names g c told =
     let still : IsTrue (v c.read_place.new.pages).is_told = subst IsTrue (sym reads.counts.told) told in
     put_leaf_added old (v c.read_place.new.pages) (v c.add_entry.new.pages) c.args.page c.in-Ok-Between.n c.add_entry.result (reads.same (λ failed. failed) told)
     (subst (IsPlaceOf (count_of (old.page c.args.page))) c.in-Ok-Between.field-0-is (c.in-Ok-Between.ensures.within told)) (c.add_entry.ensures.names still)
+
+pub returns-in-Ok-There-clause-along : goal.returns-in-Ok-There-clause-along
+returns-in-Ok-There-clause-along g c told =
+    let v = g.P.Pages.view in
+    let old = v c.args.pages.now in
+    let new = v c.read_place.new.pages in
+    along_more 0 1 old new (omega arith) (along_same old new (c.in-Ok-There.ensures.reads.same (λ failed. failed) told))
+
+pub returns-in-Ok-clause-along : goal.returns-in-Ok-clause-along
+returns-in-Ok-clause-along g c told =
+    let v = g.P.Pages.view in
+    let mid = v c.read_place.new.pages in
+    let new = v c.put_over.new.pages in
+    let reads = c.in-Ok-Over.ensures.reads in
+    let still : IsTrue mid.is_told = subst IsTrue (sym reads.counts.told) told in
+    along_over 1 (v c.args.pages.now) mid new (reads.same (λ failed. failed) told) (along_more 0 1 mid new (omega arith) (c.in-Ok.ensures.along still))
+
+pub returns-in-Ok-Between-clause-along : goal.returns-in-Ok-Between-clause-along
+returns-in-Ok-Between-clause-along g c = ok_map _ _ c.add_entry.result (λ along told.
+    let v = g.P.Pages.view in
+    let mid = v c.read_place.new.pages in
+    let reads = c.in-Ok-Between.ensures.reads in
+    let still : IsTrue mid.is_told = subst IsTrue (sym reads.counts.told) told in
+    along_over 1 (v c.args.pages.now) mid (v c.add_entry.new.pages) (reads.same (λ failed. failed) told) (along still))
+    c.add_entry.ensures.along
+
+pub returns-in-Ok-Between-clause-own : goal.returns-in-Ok-Between-clause-own
+returns-in-Ok-Between-clause-own g c = ok_of _ c.add_entry.result c.in-Ok-Between.ensures.own

@@ -1,6 +1,5 @@
-use Rattle.std.proofs.Common.{◌≡◌, ◌≤◌, ◌<◌, ◌+◌, ◌-◌, ◌++◌, ◌∙◌, ℕ, Bool, false, List, take, drop, None, sym, ap, subst, arith, inl, inr}
-use Rattle.std.proofs.lemmas.Bool.{cases_lt}
-use Rattle.std.specs.Prelude.{IsTrue, ◌↔◌}
+use Rattle.std.proofs.Common.{◌≡◌, ◌≤◌, ◌<◌, ◌+◌, ◌-◌, ◌++◌, ◌∙◌, ℕ, List, take, drop, None, sym, ap, subst, arith, inl}
+use Rattle.std.specs.Prelude.{IsTrue}
 use Rattle.gaz_page.specs.Pages.{PagesView, Writes}
 use Rattle.gaz_page.proofs.PageMaps.{with_same}
 use Rattle.gaz_leaf.specs.declared.kind.Kind.TheVariants.{Leaf}
@@ -16,10 +15,9 @@ use Rattle.gaz_tree.proofs.Ways.{searched_none}
 use Rattle.gaz_tree.proofs.Answered.{chain_same}
 use Rattle.gaz_tree.proofs.Thinned.{leaf_removed}
 use Rattle.gaz_tree.proofs.Removes.{removed_over, searched_cut}
+use Rattle.gaz_leaf.specs.Node.{IsPage}
+use Rattle.gaz_leaf.proofs.Keys.{not_below}
 use Rattle.gaz_tree.proofs.remove.remove_leaf.Goals as goal
-
-not_below : (m n : ℕ) (b : Bool) → (IsTrue b ↔ (m < n)) → b ≡ false → n ≤ m
-not_below m n b says not = elim (cases_lt m n) [ inl lt ↦ absurd (let yes = says.1 lt in cc) | inr le ↦ le ]
 
 pub returns-then-next-eq0-clause-removes : goal.returns-then-next-eq0-clause-removes
 returns-then-next-eq0-clause-removes g c told low high head lo hi chain =
@@ -120,3 +118,15 @@ returns-in-Err-clause-names g c told =
     let v = g.P.Pages.view in
     let old = v c.args.pages.now in
     since_leaf Shrunk old.page (v c.load.new.pages).page c.args.page old.is_told c.in-Err.fault told c.in-Err.ensures.unfit
+
+pub returns-then-next-eq0-clause-own : goal.returns-then-next-eq0-clause-own
+returns-then-next-eq0-clause-own g c told = subst (IsPage Leaf c.args.page) (c.in-Ok.ensures.bytes told) c.in-Ok.ensures.own
+
+pub returns-then-is_below-clause-own : goal.returns-then-is_below-clause-own
+returns-then-is_below-clause-own g c told = subst (IsPage Leaf c.args.page) (c.in-Ok.ensures.bytes told) c.in-Ok.ensures.own
+
+pub returns-then-count-least-clause-own : goal.returns-then-count-least-clause-own
+returns-then-count-least-clause-own g c told = subst (IsPage Leaf c.args.page) (c.in-Ok.ensures.bytes told) c.in-Ok.ensures.own
+
+pub returns-clause-own : goal.returns-clause-own
+returns-clause-own g c told = subst (IsPage Leaf c.args.page) (c.in-Ok.ensures.bytes told) c.in-Ok.ensures.own

@@ -5,6 +5,11 @@ use Rattle.gaz_scan.specs.Seek.{Copies}
 use Rattle.gaz_leaf.proofs.Keys.{joined_fits}
 use Rattle.gaz_scan.proofs.Places.{under_whole}
 use Rattle.gaz_scan.proofs.Scans.{filled_past, filled_more, filled_none, fill_failed}
+use Rattle.std.specs.Prelude.{IsTrue}
+use Rattle.std.proofs.Common.{ap, inl, sym}
+use Rattle.gaz_tree.proofs.Down.{down_map}
+use Rattle.gaz_scan.specs.declared.copied.Copied.{Copied}
+use Rattle.gaz_scan.proofs.Downs.{stayed, past_none, went_found}
 use Rattle.gaz_scan.proofs.scan.Scan.fill_from.Goals as goal
 
 pub returns-then-is_below-clause-fills : goal.returns-then-is_below-clause-fills
@@ -46,3 +51,27 @@ returns-in-Err-clause-names g c told =
     let some = c.if-self-eq0.false in
     let tall : tree.height ≡ suc (tree.height - 1) = omega arith in
     under_whole Bool Unit (g.P.Pages.view c.args.pages.now).page tree.height (tree.height - 1) tree.top c.in-Err.fault tall (c.in-Err.ensures.names told (tree.height - 1) (omega arith))
+
+pub returns-then-is_below-clause-down : goal.returns-then-is_below-clause-down
+returns-then-is_below-clause-down g c told =
+    let s = c.args.self.now in
+    stayed (g.P.Pages.view c.args.pages.now).page s s refl (past_none s c.args.key c.requires.next (c.is_below.ensures.0 c.if-is_below.true))
+
+pub returns-in-Ok-true-clause-down : goal.returns-in-Ok-true-clause-down
+returns-in-Ok-true-clause-down g c told =
+    let s = c.args.self.now in
+    let pages = (g.P.Pages.view c.args.pages.now).page in
+    let copied = c.seek_below.new.copied in
+    went_found pages s (record { tree = s.tree; copied = copied; next = c.after_last-self.result; high = s.high })
+    (down_map pages (λ leaf. IsTrue c.in-Ok-true.field-0 → copied.bytes ≡ pages leaf) (λ leaf. copied.bytes ≡ pages leaf) (s.tree.height - 1) s.tree.top (λ n is. is (subst IsTrue (sym c.in-Ok-true.field-0-test) refl)) (c.in-Ok-true.ensures.down told))
+
+pub returns-in-Ok-false-clause-down : goal.returns-in-Ok-false-clause-down
+returns-in-Ok-false-clause-down g c told =
+    let s = c.args.self.now in
+    let pages = (g.P.Pages.view c.args.pages.now).page in
+    let copied = c.seek_below.new.copied in
+    let stays = subst (λ (b : Bool). Copies (Ok b) s.copied copied) c.in-Ok-false.field-0-test c.in-Ok-false.ensures.copies in
+    record {
+      sought = λ _. down_map pages (λ leaf. IsTrue c.in-Ok-false.field-0 → copied.bytes ≡ pages leaf) (λ leaf. Unit {0}) (s.tree.height - 1) s.tree.top (λ n is. tt) (c.in-Ok-false.ensures.down told);
+      copied = inl (ap (λ (k : Copied). k.bytes) stays);
+    }

@@ -9,6 +9,9 @@ use Rattle.gaz_page.specs.declared.pages.PageFault.{PageFault}
 use Rattle.gaz_page.specs.declared.pages.PageFault.TheVariants.{Damaged}
 use Rattle.gaz_tree.proofs.Gets.{got_same}
 use Rattle.gaz_tree.proofs.Named.{names_whole}
+use Rattle.std.specs.Prelude.{IfOk, IsTrue}
+use Rattle.gaz_tree.specs.Tree.{leaf_of}
+use Rattle.gaz_tree.specs.Calls.{LeadsDown, StandsIn}
 use Rattle.gaz_tree.proofs.tree.Tree.get.Goals as goal
 
 pub returns-then-self-eq0-clause-got : goal.returns-then-self-eq0-clause-got
@@ -46,3 +49,9 @@ returns-clause-names g c told =
     let some = c.if-self-eq0.false in
     let tall : c.args.self.height ≡ suc (c.args.self.height - 1) = omega arith in
     names_whole (g.P.Pages.view c.args.pages.now).page c.args.self.height (c.args.self.height - 1) c.args.self.top c.get_below.result tall (c.get_below.ensures.names told)
+
+pub returns-clause-down : goal.returns-clause-down
+returns-clause-down g c =
+    let v = g.P.Pages.view c.args.pages.now in
+    let tree = c.args.self in
+    subst (λ (k : ℕ). IfOk c.get_below.result (λ found. IsTrue v.is_told → LeadsDown v.page (λ leaf. StandsIn (leaf_of v.page leaf) k found) (tree.height - 1) tree.top)) c.read.ensures.is c.get_below.ensures.down

@@ -18,7 +18,48 @@ use Rattle.gaz_tree.specs.Tree.{kind_at}
 use Rattle.gaz_tree.specs.Calls.{NamesSinceOf}
 use Rattle.gaz_tree.proofs.Changed.{head_form}
 use Rattle.gaz_tree.proofs.Named.{since_whole, since_failed, since_top, since_fine, copy_fine, read_same}
+use Rattle.gaz_page.specs.Pages.{PagesView}
+use Rattle.gaz_leaf.specs.Node.{Pair}
+use Rattle.gaz_tree.specs.declared.tree.Tree.{Tree}
+use Rattle.gaz_tree.specs.Stands.{Stands}
+use Rattle.gaz_tree.specs.Remove.{HasRemoved}
+use Rattle.gaz_tree.proofs.tree.Tree.remove.Given.{Over}
+use Rattle.gaz_tree.proofs.tree.Tree.remove.Goals.{In-Ok, In-Ok-Low}
 use Rattle.gaz_tree.proofs.tree.Tree.remove.Goals as goal
+
+-- the key was taken out below the topmost page, which has lost an entry
+low : (g : Over) (c : In-Ok-Low g) (pairs : List Pair) → IsTrue (g.P.Pages.view c.args.pages.now).is_told → Stands (g.P.Pages.view c.args.pages.now) c.args.self.now pairs
+    → HasRemoved (g.P.Pages.view c.args.pages.now) (g.P.Pages.view c.remove_below.new.pages) (c.args.self.now.height - 1) c.args.self.now.top 0 (2 ^ 256) (key_of c.args.key.now)
+low g c pairs told s =
+    let v = g.P.Pages.view in
+    below_removed (v c.args.pages.now) (v c.remove_below.new.pages) c.args.self.now (key_of c.args.key.now) (key_in c.read.result) pairs (Ok c.in-Ok-Low.field-0) (Ok Low) s c.read.ensures.is c.read.ensures.fits
+    (ap (λ (f : Shrunk). Ok f) c.in-Ok-Low.field-0-is) (c.in-Ok-Low.ensures.removes told)
+
+-- the topmost page was read then
+record IsCounted (old last : PagesView) (tree : Tree) (key entries : ℕ) (buf : List ℕ) : Type 0 where
+  pub still : IsTrue last.is_told
+  pub bytes : buf ≡ last.page tree.top
+  pub count : entries ≡ count_of (last.page tree.top)
+  pub then : HasRemoved old last (tree.height - 1) tree.top 0 (2 ^ 256) key
+
+counted : (g : Over) (c : In-Ok g) (removed : HasRemoved (g.P.Pages.view c.args.pages.now) (g.P.Pages.view c.remove_below.new.pages) (c.args.self.now.height - 1) c.args.self.now.top 0 (2 ^ 256) (key_of c.args.key.now))
+    → IsTrue (g.P.Pages.view c.args.pages.now).is_told → IsCounted (g.P.Pages.view c.args.pages.now) (g.P.Pages.view c.load.new.pages) c.args.self.now (key_of c.args.key.now) c.in-Ok.count c.load.new.buf
+counted g c removed told =
+    let v = g.P.Pages.view in
+    let old = v c.args.pages.now in
+    let mid = v c.remove_below.new.pages in
+    let last = v c.load.new.pages in
+    let tree = c.args.self.now in
+    let reads = c.in-Ok.ensures.reads in
+    let still : IsTrue mid.is_told = subst IsTrue (sym c.remove_below.ensures.counts.told) told in
+    let same = reads.same (λ failed. failed) still in
+    let bytes : c.load.new.buf ≡ last.page tree.top = c.in-Ok.ensures.bytes still ∙ (λ j. sym same.pages j tree.top) in
+    record {
+      still = subst IsTrue (sym reads.counts.told) still;
+      bytes = bytes;
+      count = c.in-Ok.ensures.count ∙ ap count_of bytes;
+      then = removed_then old mid last (tree.height - 1) tree.top 0 (2 ^ 256) (key_of c.args.key.now) same removed;
+    }
 
 pub returns-in-Ok-Absent-clause-removed : goal.returns-in-Ok-Absent-clause-removed
 returns-in-Ok-Absent-clause-removed g c told pairs s =
@@ -45,53 +86,28 @@ returns-in-Ok-Fine-clause-removed g c told pairs s =
 pub returns-then-self-eq1-clause-removed : goal.returns-then-self-eq1-clause-removed
 returns-then-self-eq1-clause-removed g c told pairs s =
     let v = g.P.Pages.view in
-    let old = v c.args.pages.now in
     let mid = v c.remove_below.new.pages in
     let tree = c.args.self.now in
-    let key = key_of c.args.key.now in
-    let removed = below_removed old mid tree key (key_in c.read.result) pairs (Ok c.in-Ok-Low.field-0) (Ok Low) s c.read.ensures.is c.read.ensures.fits (ap (λ (f : Shrunk). Ok f) c.in-Ok-Low.field-0-is)
-    (c.in-Ok-Low.ensures.removes told) in
     let one = c.if-self-eq1.true in
-    without_kept old mid tree key pairs s removed (leaf_two mid (tree.height - 1) tree.top (omega arith))
+    without_kept (v c.args.pages.now) mid tree (key_of c.args.key.now) pairs s (low g (goal.at.returns-then-self-eq1-clause-removed g c).In-Ok-Low pairs told s) (leaf_two mid (tree.height - 1) tree.top (omega arith))
 
 pub returns-then-count-ne1-clause-removed : goal.returns-then-count-ne1-clause-removed
 returns-then-count-ne1-clause-removed g c told pairs s =
     let v = g.P.Pages.view in
-    let old = v c.args.pages.now in
-    let mid = v c.remove_below.new.pages in
-    let tree = c.args.self.now in
-    let key = key_of c.args.key.now in
-    let removed = below_removed old mid tree key (key_in c.read.result) pairs (Ok c.in-Ok-Low.field-0) (Ok Low) s c.read.ensures.is c.read.ensures.fits (ap (λ (f : Shrunk). Ok f) c.in-Ok-Low.field-0-is)
-    (c.in-Ok-Low.ensures.removes told) in
-    let reads = c.in-Ok.ensures.reads in
-    let still : IsTrue mid.is_told = subst IsTrue (sym c.remove_below.ensures.counts.told) told in
-    let same = reads.same (λ failed. failed) still in
     let last = v c.load.new.pages in
-    let bytes : c.load.new.buf ≡ last.page tree.top = c.in-Ok.ensures.bytes still ∙ (λ j. sym same.pages j tree.top) in
-    let then = removed_then old mid last (tree.height - 1) tree.top 0 (2 ^ 256) key same removed in
-    let count : c.in-Ok.count ≡ count_of (last.page tree.top) = c.in-Ok.ensures.count ∙ ap count_of bytes in
-    without_kept old last tree key pairs s then (other_two last (tree.height - 1) tree.top 0 (2 ^ 256) c.in-Ok.count then.head count c.if-count-ne1.true)
+    let tree = c.args.self.now in
+    let at = goal.at.returns-then-count-ne1-clause-removed g c in
+    let n = counted g at.In-Ok (low g at.In-Ok-Low pairs told s) told in
+    without_kept (v c.args.pages.now) last tree (key_of c.args.key.now) pairs s n.then (other_two last (tree.height - 1) tree.top 0 (2 ^ 256) c.in-Ok.count n.then.head n.count c.if-count-ne1.true)
 
 pub returns-clause-removed : goal.returns-clause-removed
 returns-clause-removed g c told pairs s =
     let v = g.P.Pages.view in
-    let old = v c.args.pages.now in
-    let mid = v c.remove_below.new.pages in
-    let tree = c.args.self.now in
-    let key = key_of c.args.key.now in
-    let removed = below_removed old mid tree key (key_in c.read.result) pairs (Ok c.in-Ok-Low.field-0) (Ok Low) s c.read.ensures.is c.read.ensures.fits (ap (λ (f : Shrunk). Ok f) c.in-Ok-Low.field-0-is)
-    (c.in-Ok-Low.ensures.removes told) in
-    let reads = c.in-Ok.ensures.reads in
-    let still : IsTrue mid.is_told = subst IsTrue (sym c.remove_below.ensures.counts.told) told in
-    let same = reads.same (λ failed. failed) still in
-    let last = v c.load.new.pages in
-    let bytes : c.load.new.buf ≡ last.page tree.top = c.in-Ok.ensures.bytes still ∙ (λ j. sym same.pages j tree.top) in
-    let then = removed_then old mid last (tree.height - 1) tree.top 0 (2 ^ 256) key same removed in
-    let count : c.in-Ok.count ≡ count_of (last.page tree.top) = c.in-Ok.ensures.count ∙ ap count_of bytes in
-    let again : IsTrue last.is_told = subst IsTrue (sym reads.counts.told) still in
+    let at = goal.at.returns-clause-removed g c in
+    let n = counted g at.In-Ok (low g at.In-Ok-Low pairs told s) told in
     let one = c.if-count-ne1.false in
-    lowered old last (v c.give.new.self) tree c.child_at-self.result key pairs c.if-self-eq1.false s then (sym count ∙ one)
-    (c.child_at-self.ensures ∙ ap (λ (l : List ℕ). child_in l 0) bytes) (c.in-Ok-give.ensures.given again)
+    lowered (v c.args.pages.now) (v c.load.new.pages) (v c.give.new.self) c.args.self.now c.child_at-self.result (key_of c.args.key.now) pairs c.if-self-eq1.false s n.then (sym n.count ∙ one)
+    (c.child_at-self.ensures ∙ ap (λ (l : List ℕ). child_in l 0) n.bytes) (c.in-Ok-give.ensures.given n.still)
 
 pub returns-then-self-eq0-clause-damaged : goal.returns-then-self-eq0-clause-damaged
 returns-then-self-eq0-clause-damaged g c told pairs s = let tall = s.top.tall in let none = c.if-self-eq0.true in absurd (omega arith)

@@ -1,0 +1,160 @@
+-- A step over pages that stand for a gazetteer, behind questions that left them as they were.
+use Rattle.std.proofs.Common.{◌≡◌, ◌≢◌, ◌<◌, ◌≤◌, ◌+◌, ◌-◌, ◌^◌, ℕ, List, [], ◌∷◌, length, refl, sym, ◌∙◌, ap, subst, arith, inl, inr, true, false, Bool, Option, Some, None, Ok, Err}
+use Rattle.std.specs.Prelude.{Contains, IsSome, is_some, IsTrue, IsSome, option_and_then, nat_le, if◌then◌else◌}
+use Rattle.std.proofs.lemmas.Bool.{leb-true}
+use Rattle.std.proofs.lemmas.Slice.Eq.{bytes_eq-Decides}
+use Rattle.gaz_num.specs.declared.words.Kind.{Kind}
+use Rattle.gaz_num.specs.declared.words.Kind.TheVariants.{Row, RowDelete, Alt, AltDelete, Link, Country}
+use Rattle.gaz_num.specs.declared.words.Kind.TheVariants as kinds
+use Rattle.gaz_num.specs.declared.words.Table.TheVariants.{Codes}
+use Rattle.gaz_num.specs.declared.words.Reason.TheVariants.{Length}
+use Rattle.gaz_num.specs.Pieces.{column}
+use Rattle.gaz_num.specs.Check.{reason_against, key_in, line_limit, tests_of_text, first_failing}
+use Rattle.gaz_name.specs.Name.{first_bytes}
+use Rattle.gaz_page.specs.declared.tree_root.Root.{Root}
+use Rattle.gaz_page.specs.Pages.{PagesView, SamePages}
+use Rattle.gaz_plain.specs.Gazetteer.{Gazetteer, IsGazetteer, table_of, is_delete, is_one_line, after_line, line_with, full}
+use Rattle.gaz_leaf.specs.Node.{Pair, key_of}
+use Rattle.gaz_tree.specs.Pairs.{lookup}
+use Rattle.gaz_tree.specs.Tree.{IsTop}
+use Rattle.gaz_heap.specs.Place.{record_at}
+use Rattle.gaz_keys.specs.Keys.{code_key}
+use Rattle.gaz_num.specs.declared.words.Reason.{Reason}
+use Rattle.gaz_rows.specs.declared.fault.StepFault.{StepFault}
+use Rattle.gaz_rows.specs.declared.fault.StepFault.TheVariants.{Malformed, Full, Failed, Damaged, Memory}
+use Rattle.gaz_rows.specs.declared.fault.AskFault.{AskFault}
+use Rattle.gaz_rows.specs.declared.fault.AskFault.TheVariants as ask
+use Rattle.gaz_rows.specs.Index.{Slots, line_key, SlotsDiffer, IsIndexed}
+use Rattle.gaz_rows.specs.Stands.{StandsForBut, AreUsedOnce, places_in, value_in}
+use Rattle.gaz_rows.specs.Laid.{ends_of}
+use Rattle.gaz_rows.specs.Found.{HasRecord}
+use Rattle.gaz_rows.specs.Faults.{step_fault_by}
+use Rattle.gaz_rows.specs.Store.{IsSound, IsStepFaultOf}
+use Rattle.gaz_rows.specs.Steps.{MeetsLine, IsSlotFor, slot_with, IsSlotOf}
+use Rattle.gaz_rows.specs.Stepping.{StandsAt, IsKeyOver, ComesRightly, ChangesRightly}
+use Rattle.gaz_rows.proofs.PairsStands.{meets_line}
+use Rattle.gaz_rows.proofs.ReindexedSlots.{slot_kept, slot_new, slots_agree}
+use Rattle.gaz_rows.proofs.SteppedStores.{laid_here, left_here, full_here, place_there, was_keyed, was_counted}
+
+-- a test that passed
+passed : (why : Reason) (b : Bool) (rest : List (Reason × Bool)) → first_failing ((why, b) ∷ rest) ≡ None → b ≡ true
+passed why true rest is = refl
+passed why false rest is = absurd (cc)
+
+-- A line that its check accepts has at most 65,535 bytes.
+pub short_line : (kind : Kind) (line : List ℕ) → reason_against kind line ≡ None → length line ≤ 65535
+unfolding reason_against
+short_line kind line is = leb-true (length line) line_limit (passed Length (nat_le (length line) line_limit) (tests_of_text kind line) is)
+
+pub numbers_of : (kind : Kind) (line : List ℕ) → IsSome (key_in kind line) → (numbers : List ℕ) × (key_in kind line ≡ Some numbers)
+numbers_of kind line has = by (key_in kind line) refl has
+  where
+    by : (found : Option (List ℕ)) → key_in kind line ≡ found → IsSome found → (numbers : List ℕ) × (key_in kind line ≡ Some numbers)
+    by None is has = absurd (cc)
+    by (Some numbers) is has = (numbers, is)
+
+-- ---- the key of a code
+
+code_kind : (kind : Kind) → table_of kind ≡ Codes → kind ≡ kinds.Code
+code_kind Row is = absurd (cc)
+code_kind RowDelete is = absurd (cc)
+code_kind Alt is = absurd (cc)
+code_kind AltDelete is = absurd (cc)
+code_kind Link is = absurd (cc)
+code_kind Country is = absurd (cc)
+code_kind kinds.Code is = refl
+
+-- A code with the slot for it has its key.
+pub code_over : (gaz : Gazetteer) (slots : Slots) → IsGazetteer gaz → SlotsDiffer slots gaz → (code : List ℕ) (slot : ℕ) → IsSlotFor slots gaz code slot → (kind : Kind) (line : List ℕ) → table_of kind ≡ Codes
+    → key_in kind line ≡ Some code → (key : List ℕ) → key ≡ code_key (first_bytes 23 code) slot → IsKeyOver gaz slots kind line key
+code_over gaz slots is differ code slot for kind line table keyed key key_is =
+    subst (λ k. IsKeyOver gaz slots k line key) (sym (code_kind kind table)) (by (line_with Codes code gaz) refl)
+  where
+    own : column 1 line ≡ code
+    own = some_code (column 1 line) code (subst (λ k. key_in k line ≡ Some code) (code_kind kind table) keyed)
+      where
+        some_code : (a b : List ℕ) → Some a ≡ Some b → a ≡ b
+        some_code a b same = cc
+
+    by : (found : Option (List ℕ)) → line_with Codes code gaz ≡ found → IsKeyOver gaz slots kinds.Code line key
+    by (Some was) found = record {
+      now = slots;
+      same = λ l has. refl;
+      slot = λ codes. subst (IsSlotOf slots gaz) (sym own) (slot_kept slots gaz code was differ found);
+      is = ap (λ text. code_key (first_bytes 23 text) (slots text)) own ∙ ap (code_key (first_bytes 23 code)) (for.own was found) ∙ sym key_is;
+    }
+    by None found = record {
+      now = slot_with slots code slot;
+      same = slots_agree slots gaz code slot is found;
+      slot = λ codes. subst (IsSlotOf (slot_with slots code slot) gaz) (sym own) (slot_new slots gaz code slot (for.new found).0 (for.new found).1);
+      is = ap (λ text. code_key (first_bytes 23 text) (slot_with slots code slot text)) own ∙ ap (code_key (first_bytes 23 code)) given ∙ sym key_is;
+    }
+      where
+        given : slot_with slots code slot code ≡ slot
+        given = ap (λ (b : Bool). if b then slot else slots code) ((bytes_eq-Decides code code).1 refl)
+
+-- ---- pages that a question left as they were
+
+pub stands_same : (waiting : List (List ℕ)) (gaz : Gazetteer) (old new : PagesView) (root now : Root) → SamePages old new → now ≡ root → StandsForBut waiting gaz old.page (ends_of old root) → StandsForBut waiting gaz new.page (ends_of new now)
+stands_same waiting gaz old new root now same root_is stands = record {
+  is_gazetteer = stands.is_gazetteer;
+  date = stands.date ∙ ap (λ (r : Root). Some r.day) (sym root_is);
+  counts = ap (λ (r : Root). r.counts) root_is ∙ stands.counts;
+  pairs = stands.pairs;
+  tree = subst (λ (r : Root). IsTop new.page r.height r.top stands.pairs) (sym root_is) (subst (λ p. IsTop p root.height root.top stands.pairs) (sym same.pages) stands.tree);
+  placeless = stands.placeless;
+  slots = stands.slots;
+  indexed = subst (λ p. IsIndexed stands.slots gaz (value_in waiting stands.pairs) (record_at p)) (sym same.pages) stands.indexed;
+  used_once = subst (λ (r : Root). AreUsedOnce new.page r (r.heap ∷ []) (places_in stands.pairs)) (sym ends) (subst (λ p. AreUsedOnce p (ends_of old root) (root.heap ∷ []) (places_in stands.pairs)) (sym same.pages) stands.used_once);
+}
+  where
+    ends : ends_of new now ≡ ends_of old root
+    ends = ap (ends_of new) root_is ∙ ap (λ n. record root { fresh = n; free = new.free }) same.fresh ∙ ap (λ n. record root { fresh = old.fresh; free = n }) same.free
+
+-- What stands at a place stands there still.
+pub at_same : (old new : PagesView) (key : List ℕ) (pairs : List Pair) (place : ℕ) (line : List ℕ) → SamePages old new → StandsAt old key pairs place line → StandsAt new key pairs place line
+at_same old new key pairs place line same at = record { at = at.at; record_is = ap (λ p. record_at p place) same.pages ∙ at.record_is }
+
+-- A sound fault of a question is one of a step.
+pub ask_rightly : (gaz : Gazetteer) (kind : Kind) (line : List ℕ) (cause : AskFault) (result : StepFault) → IsSound cause → result ≡ step_fault_by cause → IsStepFaultOf (after_line gaz kind line) result
+ask_rightly gaz kind line cause result sound is = subst (IsStepFaultOf (after_line gaz kind line)) (sym is) (by cause sound)
+  where
+    by : (cause : AskFault) → IsSound cause → IsStepFaultOf (after_line gaz kind line) (step_fault_by cause)
+    by ask.Failed sound = tt
+    by (ask.Damaged page) sound = sound
+    by ask.Memory sound = tt
+
+module _ (gaz : Gazetteer) (v : PagesView) (root : Root) (stands : StandsForBut [] gaz v.page (ends_of v root)) (kind : Kind) (line key : List ℕ) (one : IsTrue (is_one_line line)) (accepted : reason_against kind line ≡ None)
+  (has : IsSome (key_in kind line)) (over : IsKeyOver gaz stands.slots kind line key) where
+  pub numbers : List ℕ
+  numbers = (numbers_of kind line has).0
+
+  pub meets : MeetsLine stands.slots over.now gaz kind line (numbers_of kind line has).0 stands.pairs (record_at v.page)
+  meets = meets_line gaz v root stands over.now kind line (numbers_of kind line has).0 one accepted (numbers_of kind line has).1 over.same over.slot
+
+  -- A record stands at the place of the key.
+  pub record_here : HasRecord key v stands.pairs
+  record_here place at =
+      let held = (laid_here gaz v root stands over.now kind line (numbers_of kind line has).0 key meets over.is).held place (place_there gaz v root stands over.now kind line (numbers_of kind line has).0 key meets over.is place at) in
+      ap is_some held.1.at
+
+  -- The fault of a line that comes is that of the definition.
+  pub come_rightly : is_delete kind ≡ false → lookup (key_of key) stands.pairs ≡ None → IsTrue v.is_told → (fault : StepFault) → ComesRightly (table_of kind) root v fault → IsStepFaultOf (after_line gaz kind line) fault
+  come_rightly puts none told (Full other) right =
+      full_here gaz v root stands over.now kind line (numbers_of kind line has).0 key meets over.is puts none right.1 ∙ ap (λ t. Err (full t)) (sym right.0)
+  come_rightly puts none told (Malformed reason) right = absurd right
+  come_rightly puts none told (Damaged page) right =
+      right stands.pairs (places_in stands.pairs) told (laid_here gaz v root stands over.now kind line (numbers_of kind line has).0 key meets over.is) (left_here gaz v root stands over.now kind line (numbers_of kind line has).0 key meets over.is)
+  come_rightly puts none told Failed right = tt
+  come_rightly puts none told Memory right = tt
+
+  -- So is that of one that goes or is replaced.
+  pub change_rightly : (place : ℕ) (was : List ℕ) → StandsAt v key stands.pairs place was → IsTrue v.is_told → (fault : StepFault) → ChangesRightly (table_of kind) root v place was fault → IsStepFaultOf (after_line gaz kind line) fault
+  change_rightly place was at told (Full other) right = absurd right
+  change_rightly place was at told (Malformed reason) right = absurd right
+  change_rightly place was at told (Damaged page) right =
+      right stands.pairs (places_in stands.pairs) told (laid_here gaz v root stands over.now kind line (numbers_of kind line has).0 key meets over.is) (left_here gaz v root stands over.now kind line (numbers_of kind line has).0 key meets over.is)
+      (place_there gaz v root stands over.now kind line (numbers_of kind line has).0 key meets over.is place at.at) (was_keyed gaz v root stands over.now kind line (numbers_of kind line has).0 key meets over.is place was at)
+      (was_counted gaz v root stands over.now kind line (numbers_of kind line has).0 key meets over.is place was at)
+  change_rightly place was at told Failed right = tt
+  change_rightly place was at told Memory right = tt

@@ -1,0 +1,28 @@
+use Rattle.std.proofs.Common.{sym, subst, ◌∙◌}
+use Rattle.std.specs.Prelude.{IsTrue}
+use Rattle.gaz_rows.proofs.Working.{map_ok, gone_on, gone_past, gone_sound}
+use Rattle.gaz_rows.proofs.store.RowStore.+remove_missing.Goals as goal
+
+pub returns-then-is_among-clause-turns : goal.returns-then-is_among-clause-turns
+returns-then-is_among-clause-turns g t c =
+    let v = g.P.Pages.view in
+    map_ok c.remove_missing.result
+    (λ more told. gone_past (v c.args.self.now.pages) (v c.remove_missing.new.self.pages) c.args.self.now.root c.remove_missing.new.self.root c.args.others.now c.args.keys.now
+    c.in-Some.key.now c.in-Some.rest.now c.in-Some.ensures.cases.0 (sym c.is_among.ensures ∙ c.if-is_among.true) (more told))
+    c.remove_missing.ensures.turns
+
+pub returns-in-Ok-clause-turns : goal.returns-in-Ok-clause-turns
+returns-in-Ok-clause-turns g t c =
+    let v = g.P.Pages.view in
+    map_ok c.remove_missing-in-Ok.result
+    (λ more told. gone_on (v c.args.self.now.pages) (v c.remove_key.new.self.pages) (v c.remove_missing-in-Ok.new.self.pages) c.args.self.now.root c.remove_key.new.self.root c.remove_missing-in-Ok.new.self.root
+    c.args.others.now c.args.keys.now c.in-Some.key.now c.in-Some.rest.now c.in-Some.ensures.cases.0 (sym c.is_among.ensures ∙ c.if-is_among.false)
+    (c.in-Ok.ensures.turns told) (more (subst IsTrue (sym c.remove_key.ensures.goes_on.told) told)))
+    c.remove_missing-in-Ok.ensures.turns
+
+pub returns-in-Ok-clause-damaged : goal.returns-in-Ok-clause-damaged
+returns-in-Ok-clause-damaged g t c told =
+    let v = g.P.Pages.view in
+    gone_sound (v c.args.self.now.pages) (v c.remove_key.new.self.pages) (v c.remove_missing-in-Ok.new.self.pages) c.args.self.now.root c.remove_key.new.self.root c.remove_missing-in-Ok.new.self.root
+    c.args.others.now c.args.keys.now c.in-Some.key.now c.in-Some.rest.now c.in-Some.ensures.cases.0 c.remove_missing-in-Ok.result (c.in-Ok.ensures.turns told)
+    (c.remove_missing-in-Ok.ensures.damaged (subst IsTrue (sym c.remove_key.ensures.goes_on.told) told))

@@ -1,0 +1,97 @@
+-- What a step promises, and its parts for a line that comes, goes, or takes the place of another.
+use Rattle.std.specs.Prelude.{◌≡◌, ◌≢◌, ◌≤◌, ◌+◌, ◌-◌, ℕ, List, [], ◌∷◌, take, Option, Some, None, Result, Ok, Err, OnOk, Contains, IsTrue}
+use Rattle.gaz_num.specs.declared.words.Kind.{Kind}
+use Rattle.gaz_num.specs.declared.words.Reason.{Reason}
+use Rattle.gaz_num.specs.declared.words.Table.{Table}
+use Rattle.gaz_num.specs.Counts.{RisesOnce}
+use Rattle.gaz_num.specs.declared.words.Table.TheVariants.{Codes}
+use Rattle.gaz_num.specs.Pieces.{column}
+use Rattle.gaz_plain.specs.Gazetteer.{Gazetteer, after_line, limit_of, table_of}
+use Rattle.gaz_page.specs.declared.tree_root.Root.{Root}
+use Rattle.gaz_page.specs.Pages.{PagesView, SamePages}
+use Rattle.gaz_leaf.specs.Node.{Pair, key_of}
+use Rattle.gaz_tree.specs.Pairs.{lookup}
+use Rattle.gaz_heap.specs.Place.{record_at}
+use Rattle.gaz_keys.specs.Lines.{more_keys, IsKeyed}
+use Rattle.gaz_rows.specs.declared.fault.StepFault.{StepFault}
+use Rattle.gaz_rows.specs.declared.fault.StepFault.TheVariants.{Malformed, Full, Failed, Damaged, Memory}
+use Rattle.gaz_rows.specs.Laid.{IsLaid}
+use Rattle.gaz_rows.specs.Index.{Slots, line_key}
+use Rattle.gaz_rows.specs.Steps.{SameSlots, IsSlotOf, counted, recounted}
+use Rattle.gaz_rows.specs.Store.{IsStore, IsStepFaultOf, StepFailsOnce}
+use Rattle.gaz_rows.specs.Change.{HasCome, HasGone, HasReplaced, HasLeft}
+
+-- The line is refused by its check, with this reason, exactly where there is one.
+abbrev pub IsChecked : Option Reason → Result Unit StepFault → Type 0
+IsChecked (Some reason) result = result ≡ Err (Malformed reason)
+IsChecked None (Err (Malformed reason)) = ⊥
+IsChecked None other = Unit
+
+-- The line is taken, and the pages stand for the gazetteer after it.
+abbrev pub HasSteppedTo : Gazetteer → Kind → List ℕ → PagesView → Root → Type 0
+HasSteppedTo gaz kind line new now = (next : Gazetteer) × (after_line gaz kind line ≡ Ok next) × IsStore next new now
+
+-- Pages that stand for a gazetteer stand after the step for the one after the line.
+abbrev pub HasStepped : Kind → List ℕ → PagesView → Root → PagesView → Root → Type 0
+HasStepped kind line old root new now = (gaz : Gazetteer) → IsStore gaz old root → HasSteppedTo gaz kind line new now
+
+-- Over pages that stand for a gazetteer the fault is that of the definition, or no damage.
+abbrev pub FailsRightly : Kind → List ℕ → PagesView → Root → StepFault → Type 0
+FailsRightly kind line old root fault = (gaz : Gazetteer) → IsStore gaz old root → IsStepFaultOf (after_line gaz kind line) fault
+
+-- After a refusal by its check or for want of room in the table the pages and the root are what they were. After other faults the store is to be
+-- dropped.
+abbrev pub IsRefused : PagesView → Root → PagesView → Root → Result Unit StepFault → Type 0
+IsRefused old root new now (Err (Malformed reason)) = (IsTrue old.is_told → SamePages old new) × (new.changed ≡ old.changed) × (now ≡ root)
+IsRefused old root new now (Err (Full table)) = (IsTrue old.is_told → SamePages old new) × (new.changed ≡ old.changed) × (now ≡ root)
+IsRefused old root new now other = Unit
+
+-- What a step costs: at most so many pages are changed, by a tree of a height of at most 6. The count of faults rises by one where the pages
+-- failed, and else stands.
+pub record StepCosts (most : ℕ) (old : PagesView) (root : Root) (new : PagesView) (result : Result Unit StepFault) : Type 0 where
+  pub told : new.is_told ≡ old.is_told
+  pub read_only : new.is_read_only ≡ old.is_read_only
+  pub reads_grow : old.reads ≤ new.reads
+  pub changed : root.height ≤ 6 → new.changed ≤ old.changed + most
+  pub faults : StepFailsOnce old.faults new.faults result
+
+-- the root with other numbers of the tree, another page for new records and other counts at most
+abbrev pub HasNewCounts : Root → Root → Type 0
+HasNewCounts root now = now ≡ record root { top = now.top; height = now.height; heap = now.heap; counts = now.counts }
+
+-- The root counts a table so.
+abbrev pub HasCount : Table → ℕ → Root → Root → Type 0
+HasCount table count root now = now.counts ≡ recounted root.counts table count
+
+-- a line that stands in the store: at this place, with these bytes
+pub record StandsAt (v : PagesView) (key : List ℕ) (pairs : List Pair) (place : ℕ) (line : List ℕ) : Type 0 where
+  pub at : lookup (key_of key) pairs ≡ Some place
+  pub record_is : record_at v.page place ≡ Some line
+
+-- Over pages with room that are laid so, the fault of a line that comes is that its table is full, and else no damage.
+abbrev pub ComesRightly : Table → Root → PagesView → StepFault → Type 0
+ComesRightly table root v (Full other) = (other ≡ table) × (limit_of table ≤ counted root.counts table)
+ComesRightly table root v (Malformed reason) = ⊥
+ComesRightly table root v (Damaged page) = (pairs : List Pair) (places : List ℕ) → IsTrue v.is_told → IsLaid v root pairs (root.heap ∷ []) places → HasLeft v pairs → ⊥
+ComesRightly table root v other = Unit
+
+-- The fault of a line that goes, or is replaced, is no damage over pages with room that are laid so and have the line in its place.
+abbrev pub ChangesRightly : Table → Root → PagesView → ℕ → List ℕ → StepFault → Type 0
+ChangesRightly table root v place was (Full other) = ⊥
+ChangesRightly table root v place was (Malformed reason) = ⊥
+ChangesRightly table root v place was (Damaged page) =
+    (pairs : List Pair) (places : List ℕ) → IsTrue v.is_told → IsLaid v root pairs (root.heap ∷ []) places → HasLeft v pairs → Contains places place → IsKeyed table was
+    → 1 ≤ counted root.counts table → ⊥
+ChangesRightly table root v place was other = Unit
+
+-- A key is found with its place and the record there, in the front of the buffer; or it is in none of the pairs.
+abbrev pub IsFoundAt : List ℕ → PagesView → List Pair → List ℕ → Option (ℕ × ℕ) → Type 0
+IsFoundAt key v pairs buf None = lookup (key_of key) pairs ≡ None
+IsFoundAt key v pairs buf (Some found) = StandsAt v key pairs found.0 (take found.1 buf)
+
+-- The key by which the place of a line's like stands, over pages that stand for a gazetteer: with these slots, of which a new code has a free one.
+pub record IsKeyOver (gaz : Gazetteer) (slots : Slots) (kind : Kind) (line key : List ℕ) : Type 0 where
+  pub now : Slots
+  pub same : SameSlots gaz slots now
+  pub slot : table_of kind ≡ Codes → IsSlotOf now gaz (column 1 line)
+  pub is : line_key now (table_of kind) line ≡ key
