@@ -36,7 +36,7 @@ module _ (value : List ℕ → Option ℕ) (bytes : ℕ → Option (List ℕ)) (
       let of : IsKeyOf a_slots a key = record { table = table; line = line; there = there; among = head_is_in key (more_keys table line) } in
       let other = that_of b_slots b table key (tag_at table (a_slots (column 1 line)) line) (b_held.only key fits (a_held.all key of)) in
       let same : Some other.line ≡ Some line =
-          sym (b_held.lines table other.line other.there) ∙ ap (λ k. option_and_then bytes (value k)) other.is ∙ a_held.lines table line there
+      sym (b_held.lines table other.line other.there) ∙ ap (λ k. option_and_then bytes (value k)) other.is ∙ a_held.lines table line there
       in
       subst (Contains (lines_in b table)) (some_inj other.line line same) other.there
 

@@ -125,7 +125,7 @@ ask_rightly gaz kind line cause result sound is = subst (IsStepFaultOf (after_li
     by ask.Memory sound = tt
 
 module _ (gaz : Gazetteer) (v : PagesView) (root : Root) (stands : StandsForBut [] gaz v.page (ends_of v root)) (kind : Kind) (line key : List ℕ) (one : IsTrue (is_one_line line)) (accepted : reason_against kind line ≡ None)
-  (has : IsSome (key_in kind line)) (over : IsKeyOver gaz stands.slots kind line key) where
+    (has : IsSome (key_in kind line)) (over : IsKeyOver gaz stands.slots kind line key) where
   pub numbers : List ℕ
   numbers = (numbers_of kind line has).0
 

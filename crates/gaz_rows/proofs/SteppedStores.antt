@@ -55,7 +55,7 @@ none_missing keys = by (missing_in keys keys) refl
     by (key ∷ rest) is = let had = missing_had keys keys key (subst (λ ks. Contains ks key) (sym is) (head_is_in key rest)) in absurd (had.1 had.0)
 
 module _ (gaz : Gazetteer) (v : PagesView) (root : Root) (stands : StandsForBut [] gaz v.page (ends_of v root)) (now : Slots) (kind : Kind) (line numbers key : List ℕ)
-  (meets : MeetsLine stands.slots now gaz kind line numbers stands.pairs (record_at v.page)) (is : line_key now (table_of kind) line ≡ key) where
+    (meets : MeetsLine stands.slots now gaz kind line numbers stands.pairs (record_at v.page)) (is : line_key now (table_of kind) line ≡ key) where
   abbrev table : Table
   table = table_of kind
 
@@ -109,16 +109,19 @@ module _ (gaz : Gazetteer) (v : PagesView) (root : Root) (stands : StandsForBut 
       → counted root.counts table + one_if (line_put kind line) - one_if (old_by gaz kind numbers) ≡ n → last.counts ≡ recounted root.counts table n → n ≤ limit_of table → Stepped new last
   left_by new last turned others one place n one_is pairs_are others_is changed day n_is counts within =
       let taken = taken_with n n_is within in
-      let here = changed in
-      (step gaz kind line, taken, left_stands gaz v root stands now kind line numbers meets (step gaz kind line) taken after_order new last place (record {
-        day = day;
-        counts = counts ∙ ap (recounted root.counts table) (sym n_is);
-        laid = subst (λ ps. IsLaid new last ps (last.heap ∷ []) (with_new (line_put kind line) place (other_places now gaz kind numbers stands.pairs))) (sym pairs_are)
-            (subst (λ ps. IsLaid new last turned (last.heap ∷ []) (with_new (line_put kind line) place ps)) (sym others_is)
-            (subst (λ l. IsLaid new last turned (last.heap ∷ []) (with_new l place others)) (sym one_is) changed.laid));
-        records = subst (λ ps. RecordsLeft (line_put kind line) place ps bytes (record_at new.page)) (sym others_is)
-            (subst (λ l. RecordsLeft l place others bytes (record_at new.page)) (sym one_is) changed.left);
-      }))
+      let here = changed in (
+        step gaz kind line,
+        taken,
+        left_stands gaz v root stands now kind line numbers meets (step gaz kind line) taken after_order new last place (record {
+          day = day;
+          counts = counts ∙ ap (recounted root.counts table) (sym n_is);
+          laid = subst (λ ps. IsLaid new last ps (last.heap ∷ []) (with_new (line_put kind line) place (other_places now gaz kind numbers stands.pairs))) (sym pairs_are)
+              (subst (λ ps. IsLaid new last turned (last.heap ∷ []) (with_new (line_put kind line) place ps)) (sym others_is)
+              (subst (λ l. IsLaid new last turned (last.heap ∷ []) (with_new l place others)) (sym one_is) changed.laid));
+          records = subst (λ ps. RecordsLeft (line_put kind line) place ps bytes (record_at new.page)) (sym others_is)
+              (subst (λ l. RecordsLeft l place others bytes (record_at new.page)) (sym one_is) changed.left);
+        }),
+      )
 
   -- A line has come.
   pub come_stands : (new : PagesView) (last : Root) → is_delete kind ≡ false → lookup (key_of key) stands.pairs ≡ None → HasCome v new last stands.pairs (places_in stands.pairs) key (more_keys table line) line

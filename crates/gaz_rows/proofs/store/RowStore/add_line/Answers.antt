@@ -26,17 +26,17 @@ returns-in-Ok-put_key-clause-come g c =
     let more = missing_in [] c.args.more.now in
     map_ok c.put_missing.result
     (λ zeros told pairs places laid.
-        let told_one : IsTrue one.is_told = subst IsTrue (sym c.add_record.ensures.costs.counts.told) told in
-        let told_two : IsTrue two.is_told = subst IsTrue (sym c.put_key.ensures.goes_on.told) told_one in
-        let added = c.in-Ok.ensures.added told pairs places laid in
-        let turned = turns_on 7 (7 * length c.args.more.now) (put p) (put_zeros more) one two new c.add_record.new.self.root c.put_key.new.self.root c.put_missing.new.self.root
-            (c.in-Ok-put_key.ensures.turns told_one) (zeros told_two) in
-        record {
-          place = c.in-Ok.place;
-          changed = come_by (7 + 7 * length c.args.more.now) (λ ps. put_zeros more (put p ps)) old one new c.add_record.new.self.root c.put_missing.new.self.root pairs places c.args.line.now c.in-Ok.place
+    let told_one : IsTrue one.is_told = subst IsTrue (sym c.add_record.ensures.costs.counts.told) told in
+    let told_two : IsTrue two.is_told = subst IsTrue (sym c.put_key.ensures.goes_on.told) told_one in
+    let added = c.in-Ok.ensures.added told pairs places laid in
+    let turned = turns_on 7 (7 * length c.args.more.now) (put p) (put_zeros more) one two new c.add_record.new.self.root c.put_key.new.self.root c.put_missing.new.self.root
+    (c.in-Ok-put_key.ensures.turns told_one) (zeros told_two) in
+    record {
+      place = c.in-Ok.place;
+      changed = come_by (7 + 7 * length c.args.more.now) (λ ps. put_zeros more (put p ps)) old one new c.add_record.new.self.root c.put_missing.new.self.root pairs places c.args.line.now c.in-Ok.place
           added.laid added.there added.unlisted added.same turned
           (ap (λ (r : Root). r.heap) c.put_missing.ensures.root ∙ ap (λ (r : Root). r.heap) c.put_key.ensures.root);
-        })
+    })
     c.put_missing.ensures.turns
 
 pub returns-in-Ok-put_key-clause-damaged : goal.returns-in-Ok-put_key-clause-damaged

@@ -29,15 +29,15 @@ returns-in-Ok-remove_missing-clause-gone g c =
     let more = missing_in [] c.args.more.now in
     map_ok c.drop_record.result
     (λ drops told pairs places laid there.
-        let told_one : IsTrue one.is_told = subst IsTrue (sym c.remove_key.ensures.goes_on.told) told in
-        let told_two : IsTrue two.is_told = subst IsTrue (sym c.remove_missing.ensures.goes_on.told) told_one in
-        let turned = turns_on 0 0 (without key) (without_all more) old one two root c.remove_key.new.self.root c.remove_missing.new.self.root
-            (c.in-Ok.ensures.turns told) (c.in-Ok-remove_missing.ensures.turns told_one) in
-        record {
-          changed = gone_by 0 (λ ps. without_all more (without key ps)) old two new root c.remove_missing.new.self.root c.drop_record.new.self.root pairs places c.args.place laid turned
+    let told_one : IsTrue one.is_told = subst IsTrue (sym c.remove_key.ensures.goes_on.told) told in
+    let told_two : IsTrue two.is_told = subst IsTrue (sym c.remove_missing.ensures.goes_on.told) told_one in
+    let turned = turns_on 0 0 (without key) (without_all more) old one two root c.remove_key.new.self.root c.remove_missing.new.self.root
+    (c.in-Ok.ensures.turns told) (c.in-Ok-remove_missing.ensures.turns told_one) in
+    record {
+      changed = gone_by 0 (λ ps. without_all more (without key ps)) old two new root c.remove_missing.new.self.root c.drop_record.new.self.root pairs places c.args.place laid turned
           (ap (λ (r : Root). r.heap) c.remove_missing.ensures.root ∙ ap (λ (r : Root). r.heap) c.remove_key.ensures.root) c.drop_record.ensures.root
           (λ laid_two. drops told_two (without_all more (without key pairs)) places laid_two there);
-        })
+    })
     c.drop_record.ensures.dropped
 
 pub returns-in-Ok-remove_missing-clause-damaged : goal.returns-in-Ok-remove_missing-clause-damaged
@@ -51,7 +51,7 @@ returns-in-Ok-remove_missing-clause-damaged g c told pairs places laid there lef
     let told_one : IsTrue one.is_told = subst IsTrue (sym c.remove_key.ensures.goes_on.told) told in
     let told_two : IsTrue two.is_told = subst IsTrue (sym c.remove_missing.ensures.goes_on.told) told_one in
     let turned = turns_on 0 0 (without key) (without_all more) (v c.args.self.now.pages) one two root c.remove_key.new.self.root c.remove_missing.new.self.root
-        (c.in-Ok.ensures.turns told) (c.in-Ok-remove_missing.ensures.turns told_one) pairs (root.heap ∷ []) places laid in
+    (c.in-Ok.ensures.turns told) (c.in-Ok-remove_missing.ensures.turns told_one) pairs (root.heap ∷ []) places laid in
     let heap = ap (λ (r : Root). r.heap) c.remove_missing.ensures.root ∙ ap (λ (r : Root). r.heap) c.remove_key.ensures.root in
     c.drop_record.ensures.damaged told_two (without_all more (without key pairs)) places
     (subst (λ h. IsLaid two c.remove_missing.new.self.root (without_all more (without key pairs)) (h ∷ []) places) (sym heap) turned.laid) there

@@ -39,20 +39,20 @@ returns-in-Ok-put_key-clause-replaced g c =
     let come = missing_in c.args.was.now c.args.more.now in
     map_ok c.put_missing.result
     (λ zeros told pairs places laid there.
-        let told_one : IsTrue one.is_told = subst IsTrue (sym c.put_for.ensures.costs.counts.told) told in
-        let told_two : IsTrue two.is_told = subst IsTrue (sym c.remove_missing.ensures.goes_on.told) told_one in
-        let told_three : IsTrue three.is_told = subst IsTrue (sym c.put_key.ensures.goes_on.told) told_two in
-        let stands = c.in-Ok.ensures.put told pairs places laid there in
-        let first = turns_on 0 7 (without_all gone) (put p) one two three c.put_for.new.self.root c.remove_missing.new.self.root c.put_key.new.self.root
-            (c.in-Ok-remove_missing.ensures.turns told_one) (c.in-Ok-put_key.ensures.turns told_two) in
-        let turned = turns_on (0 + 7) (7 * length c.args.more.now) (λ ps. put p (without_all gone ps)) (put_zeros come) one three new c.put_for.new.self.root c.put_key.new.self.root c.put_missing.new.self.root
-            first (zeros told_three) in
-        record {
-          place_now = c.in-Ok.place;
-          changed = come_by (0 + 7 + 7 * length c.args.more.now) (λ ps. put_zeros come (put p (without_all gone ps))) old one new c.put_for.new.self.root c.put_missing.new.self.root pairs (all_but c.args.place places) c.args.line.now c.in-Ok.place
+    let told_one : IsTrue one.is_told = subst IsTrue (sym c.put_for.ensures.costs.counts.told) told in
+    let told_two : IsTrue two.is_told = subst IsTrue (sym c.remove_missing.ensures.goes_on.told) told_one in
+    let told_three : IsTrue three.is_told = subst IsTrue (sym c.put_key.ensures.goes_on.told) told_two in
+    let stands = c.in-Ok.ensures.put told pairs places laid there in
+    let first = turns_on 0 7 (without_all gone) (put p) one two three c.put_for.new.self.root c.remove_missing.new.self.root c.put_key.new.self.root
+    (c.in-Ok-remove_missing.ensures.turns told_one) (c.in-Ok-put_key.ensures.turns told_two) in
+    let turned = turns_on (0 + 7) (7 * length c.args.more.now) (λ ps. put p (without_all gone ps)) (put_zeros come) one three new c.put_for.new.self.root c.put_key.new.self.root c.put_missing.new.self.root
+    first (zeros told_three) in
+    record {
+      place_now = c.in-Ok.place;
+      changed = come_by (0 + 7 + 7 * length c.args.more.now) (λ ps. put_zeros come (put p (without_all gone ps))) old one new c.put_for.new.self.root c.put_missing.new.self.root pairs (all_but c.args.place places) c.args.line.now c.in-Ok.place
           stands.laid stands.there stands.unlisted stands.same turned
           (ap (λ (r : Root). r.heap) c.put_missing.ensures.root ∙ ap (λ (r : Root). r.heap) c.put_key.ensures.root ∙ ap (λ (r : Root). r.heap) c.remove_missing.ensures.root);
-        })
+    })
     c.put_missing.ensures.turns
 
 pub returns-in-Ok-put_key-clause-damaged : goal.returns-in-Ok-put_key-clause-damaged
