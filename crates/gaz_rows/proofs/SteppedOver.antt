@@ -13,7 +13,7 @@ use Rattle.gaz_num.specs.Check.{reason_against, key_in, line_limit, tests_of_tex
 use Rattle.gaz_name.specs.Name.{first_bytes}
 use Rattle.gaz_page.specs.declared.tree_root.Root.{Root}
 use Rattle.gaz_page.specs.Pages.{PagesView, SamePages}
-use Rattle.gaz_plain.specs.Gazetteer.{Gazetteer, IsGazetteer, table_of, is_delete, is_one_line, after_line, line_with, full}
+use Rattle.gaz_plain.specs.Gazetteer.{Gazetteer, IsGazetteer, table_of, is_delete, is_one_line, after_line, line_with, full, limit_of}
 use Rattle.gaz_leaf.specs.Node.{Pair, key_of}
 use Rattle.gaz_tree.specs.Pairs.{lookup}
 use Rattle.gaz_tree.specs.Tree.{IsTop}
@@ -26,15 +26,17 @@ use Rattle.gaz_rows.specs.declared.fault.AskFault.{AskFault}
 use Rattle.gaz_rows.specs.declared.fault.AskFault.TheVariants as ask
 use Rattle.gaz_rows.specs.Index.{Slots, line_key, SlotsDiffer, IsIndexed}
 use Rattle.gaz_rows.specs.Stands.{StandsForBut, AreUsedOnce, places_in, value_in}
-use Rattle.gaz_rows.specs.Laid.{ends_of}
+use Rattle.gaz_rows.specs.Laid.{IsLaid, ends_of}
 use Rattle.gaz_rows.specs.Found.{HasRecord}
 use Rattle.gaz_rows.specs.Faults.{step_fault_by}
 use Rattle.gaz_rows.specs.Store.{IsSound, IsStepFaultOf}
-use Rattle.gaz_rows.specs.Steps.{MeetsLine, IsSlotFor, slot_with, IsSlotOf}
-use Rattle.gaz_rows.specs.Stepping.{StandsAt, IsKeyOver, ComesRightly, ChangesRightly}
+use Rattle.gaz_rows.specs.Steps.{MeetsLine, IsSlotFor, slot_with, IsSlotOf, counted, recounted}
+use Rattle.gaz_rows.specs.Stepping.{StandsAt, IsKeyOver, ComesRightly, ChangesRightly, HasSteppedTo}
+use Rattle.gaz_rows.specs.Change.{HasCome, HasGone, HasReplaced}
+use Rattle.gaz_keys.specs.Lines.{more_keys}
 use Rattle.gaz_rows.proofs.PairsStands.{meets_line}
 use Rattle.gaz_rows.proofs.ReindexedSlots.{slot_kept, slot_new, slots_agree}
-use Rattle.gaz_rows.proofs.SteppedStores.{laid_here, left_here, full_here, place_there, was_keyed, was_counted}
+use Rattle.gaz_rows.proofs.SteppedStores.{laid_here, left_here, full_here, place_there, was_keyed, was_counted, come_stands, go_stands, replace_stands, same_stands, none_stands}
 
 -- a test that passed
 passed : (why : Reason) (b : Bool) (rest : List (Reason × Bool)) → first_failing ((why, b) ∷ rest) ≡ None → b ≡ true
@@ -158,3 +160,29 @@ module _ (gaz : Gazetteer) (v : PagesView) (root : Root) (stands : StandsForBut 
       (was_counted gaz v root stands over.now kind line (numbers_of kind line has).0 key meets over.is place was at)
   change_rightly place was at told Failed right = tt
   change_rightly place was at told Memory right = tt
+
+  -- What a line has changed stands for the gazetteer after it.
+  pub come_over : (new : PagesView) (last : Root) → is_delete kind ≡ false → lookup (key_of key) stands.pairs ≡ None → HasCome v new last stands.pairs (places_in stands.pairs) key (more_keys (table_of kind) line) line
+      → counted root.counts (table_of kind) < limit_of (table_of kind) → last.counts ≡ recounted root.counts (table_of kind) (counted root.counts (table_of kind) + 1) → last.day ≡ root.day → HasSteppedTo gaz kind line new last
+  come_over = come_stands gaz v root stands over.now kind line (numbers_of kind line has).0 key meets over.is
+
+  pub go_over : (new : PagesView) (last : Root) (place : ℕ) (was : List ℕ) → is_delete kind ≡ true → StandsAt v key stands.pairs place was → HasGone v new last stands.pairs (places_in stands.pairs) key (more_keys (table_of kind) was) place
+      → last.counts ≡ recounted root.counts (table_of kind) (counted root.counts (table_of kind) - 1) → last.day ≡ root.day → HasSteppedTo gaz kind line new last
+  go_over = go_stands gaz v root stands over.now kind line (numbers_of kind line has).0 key meets over.is
+
+  pub replace_over : (new : PagesView) (last : Root) (place : ℕ) (was : List ℕ) → is_delete kind ≡ false → StandsAt v key stands.pairs place was
+      → HasReplaced v new last stands.pairs (places_in stands.pairs) key (more_keys (table_of kind) was) (more_keys (table_of kind) line) place line → last.counts ≡ root.counts → last.day ≡ root.day
+      → HasSteppedTo gaz kind line new last
+  replace_over = replace_stands gaz v root stands over.now kind line (numbers_of kind line has).0 key meets over.is
+
+  pub same_over : (place : ℕ) → is_delete kind ≡ false → StandsAt v key stands.pairs place line → HasSteppedTo gaz kind line v root
+  same_over = same_stands gaz v root stands over.now kind line (numbers_of kind line has).0 key meets over.is
+
+  pub none_over : is_delete kind ≡ true → lookup (key_of key) stands.pairs ≡ None → HasSteppedTo gaz kind line v root
+  none_over = none_stands gaz v root stands over.now kind line (numbers_of kind line has).0 key meets over.is
+
+  pub laid_over : IsLaid v root stands.pairs (root.heap ∷ []) (places_in stands.pairs)
+  laid_over = laid_here gaz v root stands over.now kind line (numbers_of kind line has).0 key meets over.is
+
+  pub there_over : (place : ℕ) → lookup (key_of key) stands.pairs ≡ Some place → Contains (places_in stands.pairs) place
+  there_over = place_there gaz v root stands over.now kind line (numbers_of kind line has).0 key meets over.is

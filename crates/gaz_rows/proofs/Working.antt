@@ -113,6 +113,11 @@ pub sound_within : {T : Type 0} (result : Result T PageFault) (most least more f
 sound_within result most least more fewer v root less few sound pairs kept places laid room within =
     sound pairs kept places laid (less_room most least v less room) (omega (arith, few, within))
 
+-- what follows from two facts of an answer that is Ok
+pub both_ok : {T F : Type 0} {P Q R : Type 0} (result : Result T F) → (P → Q → R) → OnOk result P → OnOk result Q → OnOk result R
+both_ok (Ok value) f p q = f p q
+both_ok (Err fault) f p q = tt
+
 module _ (old mid new : PagesView) (root between now : Root) (others keys : List (List ℕ)) (key : List ℕ) (rest : List (List ℕ)) (is : keys ≡ key ∷ rest) where
   long : length keys ≡ suc (length rest)
   long = ap length is
