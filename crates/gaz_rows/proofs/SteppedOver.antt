@@ -1,6 +1,6 @@
 -- A step over pages that stand for a gazetteer, behind questions that left them as they were.
 use Rattle.std.proofs.Common.{◌≡◌, ◌≢◌, ◌<◌, ◌≤◌, ◌+◌, ◌-◌, ◌^◌, ℕ, List, [], ◌∷◌, length, refl, sym, ◌∙◌, ap, subst, arith, inl, inr, true, false, Bool, Option, Some, None, Ok, Err}
-use Rattle.std.specs.Prelude.{Contains, IsSome, is_some, IsTrue, IsSome, option_and_then, nat_le, if◌then◌else◌}
+use Rattle.std.specs.Prelude.{Result, IfErr, Contains, IsSome, is_some, IsTrue, IsSome, option_and_then, nat_le, if◌then◌else◌}
 use Rattle.std.proofs.lemmas.Bool.{leb-true}
 use Rattle.std.proofs.lemmas.Slice.Eq.{bytes_eq-Decides}
 use Rattle.gaz_num.specs.declared.words.Kind.{Kind}
@@ -30,6 +30,9 @@ use Rattle.gaz_rows.specs.Laid.{IsLaid, ends_of}
 use Rattle.gaz_rows.specs.Found.{HasRecord}
 use Rattle.gaz_rows.specs.Faults.{step_fault_by}
 use Rattle.gaz_rows.specs.Store.{IsSound, IsStepFaultOf}
+use Rattle.gaz_rows.specs.declared.target.Target.{Target}
+use Rattle.gaz_rows.specs.declared.target.Target.TheVariants.{Key, Code}
+use Rattle.gaz_rows.specs.Target.{IsTargetOf}
 use Rattle.gaz_rows.specs.Steps.{MeetsLine, IsSlotFor, slot_with, IsSlotOf, counted, recounted}
 use Rattle.gaz_rows.specs.Stepping.{StandsAt, IsKeyOver, ComesRightly, ChangesRightly, HasSteppedTo}
 use Rattle.gaz_rows.specs.Change.{HasCome, HasGone, HasReplaced}
@@ -97,7 +100,7 @@ code_over gaz slots is differ code slot for kind line table keyed key key_is =
 
 -- ---- pages that a question left as they were
 
-pub stands_same : (waiting : List (List ℕ)) (gaz : Gazetteer) (old new : PagesView) (root now : Root) → SamePages old new → now ≡ root → StandsForBut waiting gaz old.page (ends_of old root) → StandsForBut waiting gaz new.page (ends_of new now)
+abbrev pub stands_same : (waiting : List (List ℕ)) (gaz : Gazetteer) (old new : PagesView) (root now : Root) → SamePages old new → now ≡ root → StandsForBut waiting gaz old.page (ends_of old root) → StandsForBut waiting gaz new.page (ends_of new now)
 stands_same waiting gaz old new root now same root_is stands = record {
   is_gazetteer = stands.is_gazetteer;
   date = stands.date ∙ ap (λ (r : Root). Some r.day) (sym root_is);
@@ -186,3 +189,38 @@ module _ (gaz : Gazetteer) (v : PagesView) (root : Root) (stands : StandsForBut 
 
   pub there_over : (place : ℕ) → lookup (key_of key) stands.pairs ≡ Some place → Contains (places_in stands.pairs) place
   there_over = place_there gaz v root stands over.now kind line (numbers_of kind line has).0 key meets over.is
+
+-- What a line speaks of has a key in its table.
+pub target_keyed : (kind : Kind) (line : List ℕ) (target : Target) → IsTargetOf kind line (Some target) → IsSome (key_in kind line)
+target_keyed kind line (Key key) is = is.0
+target_keyed kind line (Code code) is = ap is_some is.1
+
+-- Pages that stand for a gazetteer, behind two questions that left them as they were: the key for a line, and what stands there.
+pub record Behind (gaz : Gazetteer) (v : PagesView) (root : Root) (stands : StandsForBut [] gaz v.page (ends_of v root)) (between now : PagesView) (root_between root_now : Root) (kind : Kind) (line key : List ℕ) : Type 0 where
+  pub told : IsTrue now.is_told
+  pub stands_between : StandsForBut [] gaz between.page (ends_of between root_between)
+  pub stands_now : StandsForBut [] gaz now.page (ends_of now root_now)
+  pub same_now : SamePages between now
+  pub over : IsKeyOver gaz stands_now.slots kind line key
+  pub same_pairs : stands_between.pairs ≡ stands_now.pairs
+  pub recorded : HasRecord key between stands_between.pairs
+
+abbrev pub behind : (gaz : Gazetteer) (v between now : PagesView) (root root_between root_now : Root) (stands : StandsForBut [] gaz v.page (ends_of v root)) (kind : Kind) (line key : List ℕ) → IsTrue (is_one_line line) → reason_against kind line ≡ None
+    → IsSome (key_in kind line) → IsTrue now.is_told → SamePages v between → root_between ≡ root → SamePages between now → root_now ≡ root_between → IsKeyOver gaz stands.slots kind line key
+    → Behind gaz v root stands between now root_between root_now kind line key
+behind gaz v between now root root_between root_now stands kind line key one accepted has told first first_root second second_root over =
+    let stands_between = stands_same [] gaz v between root root_between first first_root stands in
+    record {
+      told = told;
+      stands_between = stands_between;
+      stands_now = stands_same [] gaz between now root_between root_now second second_root stands_between;
+      same_now = second;
+      over = over;
+      same_pairs = refl;
+      recorded = record_here gaz between root_between stands_between kind line key one accepted has over;
+    }
+
+-- what follows where an answer is a fault
+pub map_err : {T F : Type 0} {P Q : F → Type 0} (result : Result T F) → ((fault : F) → P fault → Q fault) → IfErr result P → IfErr result Q
+map_err (Ok value) f p = tt
+map_err (Err fault) f p = f fault p

@@ -118,6 +118,10 @@ pub both_ok : {T F : Type 0} {P Q R : Type 0} (result : Result T F) → (P → Q
 both_ok (Ok value) f p q = f p q
 both_ok (Err fault) f p q = tt
 
+pub all_ok : {T F : Type 0} {P Q R S : Type 0} (result : Result T F) → (P → Q → R → S) → OnOk result P → OnOk result Q → OnOk result R → OnOk result S
+all_ok (Ok value) f p q r = f p q r
+all_ok (Err fault) f p q r = tt
+
 module _ (old mid new : PagesView) (root between now : Root) (others keys : List (List ℕ)) (key : List ℕ) (rest : List (List ℕ)) (is : keys ≡ key ∷ rest) where
   long : length keys ≡ suc (length rest)
   long = ap length is
