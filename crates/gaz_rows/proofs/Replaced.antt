@@ -9,9 +9,9 @@ use Rattle.gaz_num.specs.declared.words.Table.TheVariants.{Rows, Alternates, Lin
 use Rattle.gaz_plain.specs.Gazetteer.{lines_in}
 use Rattle.gaz_keys.specs.Keys.{place_key, IsKey}
 use Rattle.gaz_keys.specs.Parts.{tag_of, has_place}
-use Rattle.gaz_keys.specs.Lines.{more_keys, key_at}
+use Rattle.gaz_keys.specs.Lines.{more_keys}
 use Rattle.gaz_keys.proofs.Tags.{contained, tag_for, tag_at, more_placeless}
-use Rattle.gaz_rows.specs.Index.{Slots, line_key, IsKeyOf, IsIndexed, SlotsDiffer}
+use Rattle.gaz_rows.specs.Index.{Slots, line_key, IsKeyOf, IsIndexed}
 use Rattle.gaz_rows.proofs.Members.{head_is_in, tail_is_in}
 use Rattle.gaz_rows.proofs.Keyed.{some_inj}
 
@@ -82,13 +82,13 @@ module _ (slots : Slots) (gaz : Gazetteer) (id : ℕ) (new : List ℕ) (rows : L
       all_there : (key : List ℕ) → IsKeyOf slots after key → IsSome (value_now key)
       all_there key of = elim (was are of.table of.line of.there) [
         | inl new_one ↦
-          let among : Contains (line_key slots Rows new ∷ more_keys Rows new) key = subst (λ l. Contains (line_key slots Rows l ∷ more_keys Rows l) key) new_one.1 (subst (λ t. Contains (line_key slots t of.line ∷ more_keys t of.line) key) new_one.0 of.among) in
-          elim (contained (line_key slots Rows new) (more_keys Rows new) key among) [
-            | inl is ↦ ap (λ k. is_some (value_now k)) (sym is ∙ new_key) ∙ ap is_some put.at
-            | inr more ↦
-              let more_old : Contains (more_keys Rows old) key = subst (λ keys. Contains keys key) same_keys more in
-              ap is_some (put.others key (more_differ Rows old key more_old)) ∙ held.all key (record { table = Rows; line = old; there = there; among = tail_is_in (line_key slots Rows old) (more_keys Rows old) key more_old })
-          ]
+            let among : Contains (line_key slots Rows new ∷ more_keys Rows new) key = subst (λ l. Contains (line_key slots Rows l ∷ more_keys Rows l) key) new_one.1 (subst (λ t. Contains (line_key slots t of.line ∷ more_keys t of.line) key) new_one.0 of.among) in
+            elim (contained (line_key slots Rows new) (more_keys Rows new) key among) [
+              | inl is ↦ ap (λ k. is_some (value_now k)) (sym is ∙ new_key) ∙ ap is_some put.at
+              | inr more ↦
+                  let more_old : Contains (more_keys Rows old) key = subst (λ keys. Contains keys key) same_keys more in
+                  ap is_some (put.others key (more_differ Rows old key more_old)) ∙ held.all key (record { table = Rows; line = old; there = there; among = tail_is_in (line_key slots Rows old) (more_keys Rows old) key more_old })
+            ]
         | inr earlier ↦ ap is_some (put.others key (not_key earlier.1 of.among)) ∙ held.all key (record { table = of.table; line = of.line; there = earlier.0; among = of.among })
       ]
         where
@@ -114,6 +114,7 @@ module _ (slots : Slots) (gaz : Gazetteer) (id : ℕ) (new : List ℕ) (rows : L
                     | inr more ↦ record { table = Rows; line = new; there = are.has_new; among = tail_is_in (line_key slots Rows new) (more_keys Rows new) key (subst (λ keys. Contains keys key) (sym same_keys) more) }
                   ]
               by_key false is = record { table = of.table; line = of.line; there = stays are of.table of.line of.there (λ e. false_is_true (sym is ∙ (bytes_eq-Decides (line_key slots of.table of.line) Key).1 e)); among = of.among }
+
           by : (b : Bool) → bytes_eq key Key ≡ b → IsKeyOf slots after key
           by true is = record { table = Rows; line = new; there = are.has_new; among = subst (Contains (line_key slots Rows new ∷ more_keys Rows new)) (new_key ∙ sym ((bytes_eq-Decides key Key).0 is)) (head_is_in (line_key slots Rows new) (more_keys Rows new)) }
           by false is =
@@ -141,18 +142,18 @@ module _ (slots : Slots) (gaz : Gazetteer) (id : ℕ) (new : List ℕ) (rows : L
       lines_there : (table : Table) (line : List ℕ) → Contains (lines_in after table) line → option_and_then bytes_now (value_now (line_key slots table line)) ≡ Some line
       lines_there table line has = elim (was are table line has) [
         | inl new_one ↦
-          subst (λ t. option_and_then bytes_now (value_now (line_key slots t line)) ≡ Some line) (sym new_one.0)
-          (subst (λ l. option_and_then bytes_now (value_now (line_key slots Rows l)) ≡ Some l) (sym new_one.1)
-          (ap (λ k. option_and_then bytes_now (value_now k)) new_key ∙ ap (option_and_then bytes_now) put.at ∙ put.stands))
+            subst (λ t. option_and_then bytes_now (value_now (line_key slots t line)) ≡ Some line) (sym new_one.0)
+            (subst (λ l. option_and_then bytes_now (value_now (line_key slots Rows l)) ≡ Some l) (sym new_one.1)
+            (ap (λ k. option_and_then bytes_now (value_now k)) new_key ∙ ap (option_and_then bytes_now) put.at ∙ put.stands))
         | inr earlier ↦ (earlier_line table line earlier.0 earlier.1 (value (line_key slots table line)) refl).0
       ]
 
       zeros_there : (table : Table) (line key : List ℕ) → Contains (lines_in after table) line → Contains (more_keys table line) key → value_now key ≡ Some 0
       zeros_there table line key has among = elim (was are table line has) [
         | inl new_one ↦
-          let more : Contains (more_keys Rows new) key = subst (λ l. Contains (more_keys Rows l) key) new_one.1 (subst (λ t. Contains (more_keys t line) key) new_one.0 among) in
-          let more_old = subst (λ keys. Contains keys key) same_keys more in
-          put.others key (more_differ Rows old key more_old) ∙ held.zeros Rows old key there more_old
+            let more : Contains (more_keys Rows new) key = subst (λ l. Contains (more_keys Rows l) key) new_one.1 (subst (λ t. Contains (more_keys t line) key) new_one.0 among) in
+            let more_old = subst (λ keys. Contains keys key) same_keys more in
+            put.others key (more_differ Rows old key more_old) ∙ held.zeros Rows old key there more_old
         | inr earlier ↦ put.others key (more_differ table line key among) ∙ held.zeros table line key earlier.0 among
       ]
 

@@ -1,6 +1,6 @@
 -- A step over pages that stand for a gazetteer, behind questions that left them as they were.
-use Rattle.std.proofs.Common.{◌≡◌, ◌≢◌, ◌<◌, ◌≤◌, ◌+◌, ◌-◌, ◌^◌, ℕ, List, [], ◌∷◌, length, refl, sym, ◌∙◌, ap, subst, arith, inl, inr, true, false, Bool, Option, Some, None, Ok, Err}
-use Rattle.std.specs.Prelude.{Result, IfErr, Contains, IsSome, is_some, IsTrue, IsSome, option_and_then, nat_le, if◌then◌else◌}
+use Rattle.std.proofs.Common.{◌≡◌, ◌<◌, ◌≤◌, ◌+◌, ◌-◌, ℕ, List, [], ◌∷◌, length, refl, sym, ◌∙◌, ap, subst, true, false, Bool, Option, Some, None, Ok, Err}
+use Rattle.std.specs.Prelude.{Result, IfErr, Contains, IsSome, is_some, IsTrue, IsSome, nat_le, if◌then◌else◌}
 use Rattle.std.proofs.lemmas.Bool.{leb-true}
 use Rattle.std.proofs.lemmas.Slice.Eq.{bytes_eq-Decides}
 use Rattle.gaz_num.specs.declared.words.Kind.{Kind}
@@ -24,7 +24,7 @@ use Rattle.gaz_rows.specs.declared.fault.StepFault.{StepFault}
 use Rattle.gaz_rows.specs.declared.fault.StepFault.TheVariants.{Malformed, Full, Failed, Damaged, Memory}
 use Rattle.gaz_rows.specs.declared.fault.AskFault.{AskFault}
 use Rattle.gaz_rows.specs.declared.fault.AskFault.TheVariants as ask
-use Rattle.gaz_rows.specs.Index.{Slots, line_key, SlotsDiffer, IsIndexed}
+use Rattle.gaz_rows.specs.Index.{Slots, SlotsDiffer, IsIndexed}
 use Rattle.gaz_rows.specs.Stands.{StandsForBut, AreUsedOnce, places_in, value_in}
 use Rattle.gaz_rows.specs.Laid.{IsLaid, ends_of}
 use Rattle.gaz_rows.specs.Found.{HasRecord}
@@ -130,7 +130,7 @@ ask_rightly gaz kind line cause result sound is = subst (IsStepFaultOf (after_li
     by ask.Memory sound = tt
 
 module _ (gaz : Gazetteer) (v : PagesView) (root : Root) (stands : StandsForBut [] gaz v.page (ends_of v root)) (kind : Kind) (line key : List ℕ) (one : IsTrue (is_one_line line)) (accepted : reason_against kind line ≡ None)
-  (has : IsSome (key_in kind line)) (over : IsKeyOver gaz stands.slots kind line key) where
+    (has : IsSome (key_in kind line)) (over : IsKeyOver gaz stands.slots kind line key) where
   pub numbers : List ℕ
   numbers = (numbers_of kind line has).0
 

@@ -1,5 +1,5 @@
 -- Pages that stand for a gazetteer, once a line has come, gone or taken the place of another, stand for the gazetteer after it.
-use Rattle.std.proofs.Common.{◌≡◌, ◌≢◌, ◌<◌, ◌≤◌, ◌+◌, ◌-◌, ◌^◌, ℕ, List, [], ◌∷◌, length, refl, sym, ◌∙◌, ap, subst, arith, inl, inr, true, false, Bool, Option, Some, None, Ok, Err}
+use Rattle.std.proofs.Common.{◌≡◌, ◌<◌, ◌≤◌, ◌+◌, ◌-◌, ℕ, List, [], ◌∷◌, refl, sym, ◌∙◌, ap, subst, arith, inl, inr, true, false, Option, Some, None, Ok, Err}
 use Rattle.std.specs.Prelude.{Contains, option_and_then, if◌then◌else◌}
 use Rattle.std.proofs.lemmas.Bool.{cases_eq}
 use Rattle.std.proofs.lemmas.List.Elements.{All-contains}
@@ -18,10 +18,10 @@ use Rattle.gaz_keys.specs.Parts.{has_place, tag_of}
 use Rattle.gaz_keys.specs.Lines.{more_keys, IsKeyed}
 use Rattle.gaz_keys.proofs.Tags.{contained}
 use Rattle.gaz_rows.specs.Index.{Slots, line_key}
-use Rattle.gaz_rows.specs.Stands.{StandsForBut, places_in, counts_of, tag_in}
+use Rattle.gaz_rows.specs.Stands.{StandsForBut, places_in, counts_of}
 use Rattle.gaz_rows.specs.Laid.{IsLaid, ends_of, all_but}
 use Rattle.gaz_rows.specs.Work.{put_zeros, without_all, missing_in}
-use Rattle.gaz_rows.specs.Steps.{MeetsLine, IsLeft, RecordsLeft, pair_at, more_by, line_put, old_by, other_places, but_old, with_new, pairs_with, counted, recounted, one_if}
+use Rattle.gaz_rows.specs.Steps.{MeetsLine, RecordsLeft, pair_at, more_by, line_put, old_by, other_places, but_old, with_new, pairs_with, counted, recounted, one_if}
 use Rattle.gaz_rows.specs.Change.{IsChanged, HasCome, HasGone, HasReplaced, HasLeft}
 use Rattle.gaz_rows.specs.Stepping.{StandsAt}
 use Rattle.gaz_rows.proofs.Members.{head_is_in, tail_is_in}
@@ -55,7 +55,7 @@ none_missing keys = by (missing_in keys keys) refl
     by (key ∷ rest) is = let had = missing_had keys keys key (subst (λ ks. Contains ks key) (sym is) (head_is_in key rest)) in absurd (had.1 had.0)
 
 module _ (gaz : Gazetteer) (v : PagesView) (root : Root) (stands : StandsForBut [] gaz v.page (ends_of v root)) (now : Slots) (kind : Kind) (line numbers key : List ℕ)
-  (meets : MeetsLine stands.slots now gaz kind line numbers stands.pairs (record_at v.page)) (is : line_key now (table_of kind) line ≡ key) where
+    (meets : MeetsLine stands.slots now gaz kind line numbers stands.pairs (record_at v.page)) (is : line_key now (table_of kind) line ≡ key) where
   abbrev table : Table
   table = table_of kind
 
@@ -109,16 +109,19 @@ module _ (gaz : Gazetteer) (v : PagesView) (root : Root) (stands : StandsForBut 
       → counted root.counts table + one_if (line_put kind line) - one_if (old_by gaz kind numbers) ≡ n → last.counts ≡ recounted root.counts table n → n ≤ limit_of table → Stepped new last
   left_by new last turned others one place n one_is pairs_are others_is changed day n_is counts within =
       let taken = taken_with n n_is within in
-      let here = changed in
-      (step gaz kind line, taken, left_stands gaz v root stands now kind line numbers meets (step gaz kind line) taken after_order new last place (record {
-        day = day;
-        counts = counts ∙ ap (recounted root.counts table) (sym n_is);
-        laid = subst (λ ps. IsLaid new last ps (last.heap ∷ []) (with_new (line_put kind line) place (other_places now gaz kind numbers stands.pairs))) (sym pairs_are)
-            (subst (λ ps. IsLaid new last turned (last.heap ∷ []) (with_new (line_put kind line) place ps)) (sym others_is)
-            (subst (λ l. IsLaid new last turned (last.heap ∷ []) (with_new l place others)) (sym one_is) changed.laid));
-        records = subst (λ ps. RecordsLeft (line_put kind line) place ps bytes (record_at new.page)) (sym others_is)
-            (subst (λ l. RecordsLeft l place others bytes (record_at new.page)) (sym one_is) changed.left);
-      }))
+      let here = changed in (
+        step gaz kind line,
+        taken,
+        left_stands gaz v root stands now kind line numbers meets (step gaz kind line) taken after_order new last place (record {
+          day = day;
+          counts = counts ∙ ap (recounted root.counts table) (sym n_is);
+          laid = subst (λ ps. IsLaid new last ps (last.heap ∷ []) (with_new (line_put kind line) place (other_places now gaz kind numbers stands.pairs))) (sym pairs_are)
+              (subst (λ ps. IsLaid new last turned (last.heap ∷ []) (with_new (line_put kind line) place ps)) (sym others_is)
+              (subst (λ l. IsLaid new last turned (last.heap ∷ []) (with_new l place others)) (sym one_is) changed.laid));
+          records = subst (λ ps. RecordsLeft (line_put kind line) place ps bytes (record_at new.page)) (sym others_is)
+              (subst (λ l. RecordsLeft l place others bytes (record_at new.page)) (sym one_is) changed.left);
+        }),
+      )
 
   -- A line has come.
   pub come_stands : (new : PagesView) (last : Root) → is_delete kind ≡ false → lookup (key_of key) stands.pairs ≡ None → HasCome v new last stands.pairs (places_in stands.pairs) key (more_keys table line) line

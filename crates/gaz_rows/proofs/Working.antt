@@ -1,6 +1,6 @@
 -- Calls on the tree leave what is laid.
-use Rattle.std.proofs.Common.{◌≡◌, ◌<◌, ◌≤◌, ◌+◌, ◌*◌, ◌^◌, ℕ, suc, List, [], ◌∷◌, length, refl, sym, ◌∙◌, ap, subst, arith, inl, inr}
-use Rattle.std.specs.Prelude.{◌⊎◌, Bool, true, false, ◌==◌, not, if◌then◌else◌, bytes_eq, Result, Ok, Err, IfErr, OnOk}
+use Rattle.std.proofs.Common.{◌≡◌, ◌≤◌, ◌+◌, ◌*◌, ◌^◌, ℕ, suc, List, [], ◌∷◌, length, refl, sym, ◌∙◌, ap, subst, arith, inl, inr}
+use Rattle.std.specs.Prelude.{Bool, true, false, ◌==◌, not, if◌then◌else◌, bytes_eq, Result, Ok, Err, OnOk}
 use Rattle.std.specs.List.{list_any}
 use Rattle.gaz_page.specs.declared.pages.PageFault.{PageFault}
 use Rattle.gaz_page.specs.declared.pages.PageFault.TheVariants.{Failed, Damaged, Memory}
@@ -13,7 +13,7 @@ use Rattle.gaz_tree.specs.Put.{Trades, Changes}
 use Rattle.gaz_tree.specs.Remove.{Returns}
 use Rattle.gaz_tree.specs.Stands.{Stands, OfTree, PutDamage, IsWith, IsWithout}
 use Rattle.gaz_tree.proofs.Lists.{length-put_most}
-use Rattle.gaz_rows.specs.Laid.{IsLaid, LaidBy, HasRoom, tree_in, SameRecords}
+use Rattle.gaz_rows.specs.Laid.{IsLaid, LaidBy, HasRoom, tree_in}
 use Rattle.gaz_rows.specs.Work.{TurnsPairs, IsSoundWith, put_zeros, without_all, missing_in}
 use Rattle.gaz_rows.proofs.LaidKeys.{after_key_put, after_key_removed}
 

@@ -1,11 +1,10 @@
-use Rattle.std.proofs.Common.{◌+◌, ◌*◌, ◌≤◌, ◌∙◌, ℕ, List, [], ◌∷◌, length, sym, subst, ap, arith}
+use Rattle.std.proofs.Common.{◌+◌, ◌*◌, ◌∙◌, [], ◌∷◌, length, sym, subst, ap, arith}
 use Rattle.std.specs.Prelude.{IsTrue}
 use Rattle.gaz_page.specs.declared.tree_root.Root.{Root}
-use Rattle.gaz_page.specs.Pages.{PagesView}
-use Rattle.gaz_leaf.specs.Node.{Pair, key_of}
-use Rattle.gaz_tree.specs.Pairs.{put, without}
+use Rattle.gaz_leaf.specs.Node.{Pair}
+use Rattle.gaz_tree.specs.Pairs.{put}
 use Rattle.gaz_tree.proofs.Lists.{length-put_most}
-use Rattle.gaz_rows.specs.Work.{TurnsPairs, put_zeros, without_all, missing_in}
+use Rattle.gaz_rows.specs.Work.{put_zeros, missing_in}
 use Rattle.gaz_rows.specs.Steps.{pair_at}
 use Rattle.gaz_rows.proofs.Working.{map_ok, less_room, turns_on}
 use Rattle.gaz_rows.proofs.Changing.{come_by, sound_behind}
@@ -26,17 +25,17 @@ returns-in-Ok-put_key-clause-come g c =
     let more = missing_in [] c.args.more.now in
     map_ok c.put_missing.result
     (λ zeros told pairs places laid.
-        let told_one : IsTrue one.is_told = subst IsTrue (sym c.add_record.ensures.costs.counts.told) told in
-        let told_two : IsTrue two.is_told = subst IsTrue (sym c.put_key.ensures.goes_on.told) told_one in
-        let added = c.in-Ok.ensures.added told pairs places laid in
-        let turned = turns_on 7 (7 * length c.args.more.now) (put p) (put_zeros more) one two new c.add_record.new.self.root c.put_key.new.self.root c.put_missing.new.self.root
-            (c.in-Ok-put_key.ensures.turns told_one) (zeros told_two) in
-        record {
-          place = c.in-Ok.place;
-          changed = come_by (7 + 7 * length c.args.more.now) (λ ps. put_zeros more (put p ps)) old one new c.add_record.new.self.root c.put_missing.new.self.root pairs places c.args.line.now c.in-Ok.place
+    let told_one : IsTrue one.is_told = subst IsTrue (sym c.add_record.ensures.costs.counts.told) told in
+    let told_two : IsTrue two.is_told = subst IsTrue (sym c.put_key.ensures.goes_on.told) told_one in
+    let added = c.in-Ok.ensures.added told pairs places laid in
+    let turned = turns_on 7 (7 * length c.args.more.now) (put p) (put_zeros more) one two new c.add_record.new.self.root c.put_key.new.self.root c.put_missing.new.self.root
+    (c.in-Ok-put_key.ensures.turns told_one) (zeros told_two) in
+    record {
+      place = c.in-Ok.place;
+      changed = come_by (7 + 7 * length c.args.more.now) (λ ps. put_zeros more (put p ps)) old one new c.add_record.new.self.root c.put_missing.new.self.root pairs places c.args.line.now c.in-Ok.place
           added.laid added.there added.unlisted added.same turned
           (ap (λ (r : Root). r.heap) c.put_missing.ensures.root ∙ ap (λ (r : Root). r.heap) c.put_key.ensures.root);
-        })
+    })
     c.put_missing.ensures.turns
 
 pub returns-in-Ok-put_key-clause-damaged : goal.returns-in-Ok-put_key-clause-damaged

@@ -1,5 +1,4 @@
-use Rattle.std.proofs.Common.{sym, ap, subst, ◌∙◌, ◌-◌, ◌≡◌, [], List}
-use Rattle.gaz_num.specs.declared.words.Table.{Table}
+use Rattle.std.proofs.Common.{sym, ap, subst, ◌∙◌, ◌-◌, ◌≡◌}
 use Rattle.gaz_page.specs.declared.tree_root.Root.{Root}
 use Rattle.gaz_keys.specs.Lines.{more_keys}
 use Rattle.gaz_rows.specs.Stands.{places_in}
@@ -20,13 +19,13 @@ returns-then-is_delete-clause-stands g c =
     let table = c.table_of.ensures in
     both_ok c.go.result
     (λ gone count told gaz stands over at one.
-        go_over gaz v root stands c.args.kind c.args.line.now c.args.key.now one c.requires.accepted c.requires.keyed over new last c.args.place c.args.was.now
-        (sym c.is_delete.ensures ∙ c.if-is_delete.true) at
-        (subst (λ t. HasGone v new last stands.pairs (places_in stands.pairs) c.args.key.now (more_keys t c.args.was.now) c.args.place) table
-        (gone told stands.pairs (places_in stands.pairs) (laid_over gaz v root stands c.args.kind c.args.line.now c.args.key.now one c.requires.accepted c.requires.keyed over)
-        (there_over gaz v root stands c.args.kind c.args.line.now c.args.key.now one c.requires.accepted c.requires.keyed over c.args.place at.at)))
-        (subst (λ t. last.counts ≡ recounted root.counts t (counted root.counts t - 1)) table count)
-        (ap (λ (r : Root). r.day) c.go.ensures.root))
+    go_over gaz v root stands c.args.kind c.args.line.now c.args.key.now one c.requires.accepted c.requires.keyed over new last c.args.place c.args.was.now
+    (sym c.is_delete.ensures ∙ c.if-is_delete.true) at
+    (subst (λ t. HasGone v new last stands.pairs (places_in stands.pairs) c.args.key.now (more_keys t c.args.was.now) c.args.place) table
+    (gone told stands.pairs (places_in stands.pairs) (laid_over gaz v root stands c.args.kind c.args.line.now c.args.key.now one c.requires.accepted c.requires.keyed over)
+    (there_over gaz v root stands c.args.kind c.args.line.now c.args.key.now one c.requires.accepted c.requires.keyed over c.args.place at.at)))
+    (subst (λ t. last.counts ≡ recounted root.counts t (counted root.counts t - 1)) table count)
+    (ap (λ (r : Root). r.day) c.go.ensures.root))
     c.go.ensures.gone c.go.ensures.count
 
 pub returns-then-eq-clause-stands : goal.returns-then-eq-clause-stands
@@ -44,11 +43,11 @@ returns-clause-stands g c =
     let table = c.table_of-2.ensures in
     map_ok c.replace.result
     (λ replaced told gaz stands over at one.
-        replace_over gaz v root stands c.args.kind c.args.line.now c.args.key.now one c.requires.accepted c.requires.keyed over new last c.args.place c.args.was.now
-        (sym c.is_delete.ensures ∙ c.if-is_delete.false) at
-        (subst (λ t. HasReplaced v new last stands.pairs (places_in stands.pairs) c.args.key.now (more_keys t c.args.was.now) (more_keys t c.args.line.now) c.args.place c.args.line.now) table
-        (replaced told stands.pairs (places_in stands.pairs) (laid_over gaz v root stands c.args.kind c.args.line.now c.args.key.now one c.requires.accepted c.requires.keyed over)
-        (there_over gaz v root stands c.args.kind c.args.line.now c.args.key.now one c.requires.accepted c.requires.keyed over c.args.place at.at)))
-        c.replace.ensures.count
-        (ap (λ (r : Root). r.day) c.replace.ensures.root))
+    replace_over gaz v root stands c.args.kind c.args.line.now c.args.key.now one c.requires.accepted c.requires.keyed over new last c.args.place c.args.was.now
+    (sym c.is_delete.ensures ∙ c.if-is_delete.false) at
+    (subst (λ t. HasReplaced v new last stands.pairs (places_in stands.pairs) c.args.key.now (more_keys t c.args.was.now) (more_keys t c.args.line.now) c.args.place c.args.line.now) table
+    (replaced told stands.pairs (places_in stands.pairs) (laid_over gaz v root stands c.args.kind c.args.line.now c.args.key.now one c.requires.accepted c.requires.keyed over)
+    (there_over gaz v root stands c.args.kind c.args.line.now c.args.key.now one c.requires.accepted c.requires.keyed over c.args.place at.at)))
+    c.replace.ensures.count
+    (ap (λ (r : Root). r.day) c.replace.ensures.root))
     c.replace.ensures.replaced

@@ -1,5 +1,5 @@
-use Rattle.std.proofs.Common.{refl, subst, sym, ◌∙◌}
-use Rattle.std.specs.Prelude.{Some, [], List}
+use Rattle.std.proofs.Common.{refl, subst, ◌∙◌}
+use Rattle.std.specs.Prelude.{Some, []}
 use Rattle.gaz_tree.specs.Pairs.{put}
 use Rattle.gaz_keys.specs.Lines.{more_keys}
 use Rattle.gaz_rows.specs.Change.{HasCome}
@@ -14,11 +14,11 @@ returns-in-Ok-add_line-clause-come g c told pairs places laid =
     let root = c.add_line.new.self.root in
     let same = c.as_slice.ensures ∙ c.in-Ok.ensures.keys in
     let come = subst (λ more. HasCome (v c.args.self.now.pages) (v c.add_line.new.self.pages) root pairs places c.args.key.now more c.args.line.now) same
-        (c.in-Ok-add_line.ensures.come told pairs places laid) in
+    (c.in-Ok-add_line.ensures.come told pairs places laid) in
     record {
       place = come.place;
       changed = changed_root (v c.args.self.now.pages) (v c.add_line.new.self.pages) root (record root { counts = c.set_count.new.counts })
-      (put_zeros (missing_in [] (more_keys c.args.table c.args.line.now)) (put (pair_at c.args.key.now come.place) pairs)) places (Some c.args.line.now) come.place refl refl refl come.changed;
+          (put_zeros (missing_in [] (more_keys c.args.table c.args.line.now)) (put (pair_at c.args.key.now come.place) pairs)) places (Some c.args.line.now) come.place refl refl refl come.changed;
     }
 
 pub returns-in-Err-add_line-clause-fault : goal.returns-in-Err-add_line-clause-fault

@@ -1,5 +1,5 @@
-use Rattle.std.proofs.Common.{refl, subst, sym, ◌∙◌}
-use Rattle.std.specs.Prelude.{None, [], List}
+use Rattle.std.proofs.Common.{refl, subst, ◌∙◌}
+use Rattle.std.specs.Prelude.{None, []}
 use Rattle.gaz_leaf.specs.Node.{key_of}
 use Rattle.gaz_tree.specs.Pairs.{without}
 use Rattle.gaz_keys.specs.Lines.{more_keys}
@@ -15,10 +15,10 @@ returns-in-Ok-remove_line-clause-gone g c told pairs places laid there =
     let root = c.remove_line.new.self.root in
     let same = c.as_slice.ensures ∙ c.in-Ok.ensures.keys in
     let gone = subst (λ more. HasGone (v c.args.self.now.pages) (v c.remove_line.new.self.pages) root pairs places c.args.key.now more c.args.place) same
-        (c.in-Ok-remove_line.ensures.gone told pairs places laid there) in
+    (c.in-Ok-remove_line.ensures.gone told pairs places laid there) in
     record {
       changed = changed_root (v c.args.self.now.pages) (v c.remove_line.new.self.pages) root (record root { counts = c.set_count.new.counts })
-      (without_all (missing_in [] (more_keys c.args.table c.args.was.now)) (without (key_of c.args.key.now) pairs)) (all_but c.args.place places) None 0 refl refl refl gone.changed;
+          (without_all (missing_in [] (more_keys c.args.table c.args.was.now)) (without (key_of c.args.key.now) pairs)) (all_but c.args.place places) None 0 refl refl refl gone.changed;
     }
 
 pub returns-in-Err-remove_line-clause-fault : goal.returns-in-Err-remove_line-clause-fault

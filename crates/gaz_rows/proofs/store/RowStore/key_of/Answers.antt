@@ -1,4 +1,4 @@
-use Rattle.std.proofs.Common.{sym, ap, subst, ◌∙◌, []}
+use Rattle.std.proofs.Common.{subst, []}
 use Rattle.std.specs.Prelude.{Some}
 use Rattle.gaz_rows.specs.Target.{IsTargetOf}
 use Rattle.gaz_rows.proofs.SteppedOver.{code_over}

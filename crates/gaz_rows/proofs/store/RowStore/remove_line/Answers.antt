@@ -1,15 +1,12 @@
-use Rattle.std.proofs.Common.{◌+◌, ◌*◌, ◌≤◌, ◌∙◌, ℕ, List, [], ◌∷◌, length, sym, subst, ap, arith}
+use Rattle.std.proofs.Common.{◌∙◌, [], ◌∷◌, sym, subst, ap, arith}
 use Rattle.std.specs.Prelude.{IsTrue}
 use Rattle.gaz_page.specs.declared.tree_root.Root.{Root}
-use Rattle.gaz_page.specs.Pages.{PagesView}
-use Rattle.gaz_leaf.specs.Node.{Pair, key_of}
-use Rattle.gaz_tree.specs.Pairs.{put, without}
-use Rattle.gaz_tree.proofs.Lists.{length-put_most}
-use Rattle.gaz_rows.specs.Work.{TurnsPairs, put_zeros, without_all, missing_in}
-use Rattle.gaz_rows.specs.Steps.{pair_at}
+use Rattle.gaz_leaf.specs.Node.{key_of}
+use Rattle.gaz_tree.specs.Pairs.{without}
+use Rattle.gaz_rows.specs.Work.{without_all, missing_in}
 use Rattle.gaz_rows.specs.Laid.{IsLaid}
 use Rattle.gaz_rows.proofs.Working.{map_ok, less_room, turns_on, without_fewer}
-use Rattle.gaz_rows.proofs.Changing.{gone_by, sound_behind}
+use Rattle.gaz_rows.proofs.Changing.{gone_by}
 use Rattle.gaz_rows.proofs.store.RowStore.remove_line.Goals as goal
 
 pub returns-in-Err-clause-damaged : goal.returns-in-Err-clause-damaged
@@ -29,15 +26,15 @@ returns-in-Ok-remove_missing-clause-gone g c =
     let more = missing_in [] c.args.more.now in
     map_ok c.drop_record.result
     (λ drops told pairs places laid there.
-        let told_one : IsTrue one.is_told = subst IsTrue (sym c.remove_key.ensures.goes_on.told) told in
-        let told_two : IsTrue two.is_told = subst IsTrue (sym c.remove_missing.ensures.goes_on.told) told_one in
-        let turned = turns_on 0 0 (without key) (without_all more) old one two root c.remove_key.new.self.root c.remove_missing.new.self.root
-            (c.in-Ok.ensures.turns told) (c.in-Ok-remove_missing.ensures.turns told_one) in
-        record {
-          changed = gone_by 0 (λ ps. without_all more (without key ps)) old two new root c.remove_missing.new.self.root c.drop_record.new.self.root pairs places c.args.place laid turned
+    let told_one : IsTrue one.is_told = subst IsTrue (sym c.remove_key.ensures.goes_on.told) told in
+    let told_two : IsTrue two.is_told = subst IsTrue (sym c.remove_missing.ensures.goes_on.told) told_one in
+    let turned = turns_on 0 0 (without key) (without_all more) old one two root c.remove_key.new.self.root c.remove_missing.new.self.root
+    (c.in-Ok.ensures.turns told) (c.in-Ok-remove_missing.ensures.turns told_one) in
+    record {
+      changed = gone_by 0 (λ ps. without_all more (without key ps)) old two new root c.remove_missing.new.self.root c.drop_record.new.self.root pairs places c.args.place laid turned
           (ap (λ (r : Root). r.heap) c.remove_missing.ensures.root ∙ ap (λ (r : Root). r.heap) c.remove_key.ensures.root) c.drop_record.ensures.root
           (λ laid_two. drops told_two (without_all more (without key pairs)) places laid_two there);
-        })
+    })
     c.drop_record.ensures.dropped
 
 pub returns-in-Ok-remove_missing-clause-damaged : goal.returns-in-Ok-remove_missing-clause-damaged
@@ -51,7 +48,7 @@ returns-in-Ok-remove_missing-clause-damaged g c told pairs places laid there lef
     let told_one : IsTrue one.is_told = subst IsTrue (sym c.remove_key.ensures.goes_on.told) told in
     let told_two : IsTrue two.is_told = subst IsTrue (sym c.remove_missing.ensures.goes_on.told) told_one in
     let turned = turns_on 0 0 (without key) (without_all more) (v c.args.self.now.pages) one two root c.remove_key.new.self.root c.remove_missing.new.self.root
-        (c.in-Ok.ensures.turns told) (c.in-Ok-remove_missing.ensures.turns told_one) pairs (root.heap ∷ []) places laid in
+    (c.in-Ok.ensures.turns told) (c.in-Ok-remove_missing.ensures.turns told_one) pairs (root.heap ∷ []) places laid in
     let heap = ap (λ (r : Root). r.heap) c.remove_missing.ensures.root ∙ ap (λ (r : Root). r.heap) c.remove_key.ensures.root in
     c.drop_record.ensures.damaged told_two (without_all more (without key pairs)) places
     (subst (λ h. IsLaid two c.remove_missing.new.self.root (without_all more (without key pairs)) (h ∷ []) places) (sym heap) turned.laid) there

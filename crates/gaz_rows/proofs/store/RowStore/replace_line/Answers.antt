@@ -1,11 +1,10 @@
-use Rattle.std.proofs.Common.{◌+◌, ◌*◌, ◌≤◌, ◌∙◌, ℕ, List, [], ◌∷◌, length, sym, subst, ap, arith}
+use Rattle.std.proofs.Common.{◌+◌, ◌*◌, ◌∙◌, [], ◌∷◌, length, sym, subst, ap, arith}
 use Rattle.std.specs.Prelude.{IsTrue}
 use Rattle.gaz_page.specs.declared.tree_root.Root.{Root}
-use Rattle.gaz_page.specs.Pages.{PagesView}
-use Rattle.gaz_leaf.specs.Node.{Pair, key_of}
-use Rattle.gaz_tree.specs.Pairs.{put, without}
+use Rattle.gaz_leaf.specs.Node.{Pair}
+use Rattle.gaz_tree.specs.Pairs.{put}
 use Rattle.gaz_tree.proofs.Lists.{length-put_most}
-use Rattle.gaz_rows.specs.Work.{TurnsPairs, put_zeros, without_all, missing_in}
+use Rattle.gaz_rows.specs.Work.{put_zeros, without_all, missing_in}
 use Rattle.gaz_rows.specs.Steps.{pair_at}
 use Rattle.gaz_rows.specs.Laid.{all_but}
 use Rattle.gaz_rows.proofs.Working.{map_ok, less_room, turns_on}
@@ -39,20 +38,20 @@ returns-in-Ok-put_key-clause-replaced g c =
     let come = missing_in c.args.was.now c.args.more.now in
     map_ok c.put_missing.result
     (λ zeros told pairs places laid there.
-        let told_one : IsTrue one.is_told = subst IsTrue (sym c.put_for.ensures.costs.counts.told) told in
-        let told_two : IsTrue two.is_told = subst IsTrue (sym c.remove_missing.ensures.goes_on.told) told_one in
-        let told_three : IsTrue three.is_told = subst IsTrue (sym c.put_key.ensures.goes_on.told) told_two in
-        let stands = c.in-Ok.ensures.put told pairs places laid there in
-        let first = turns_on 0 7 (without_all gone) (put p) one two three c.put_for.new.self.root c.remove_missing.new.self.root c.put_key.new.self.root
-            (c.in-Ok-remove_missing.ensures.turns told_one) (c.in-Ok-put_key.ensures.turns told_two) in
-        let turned = turns_on (0 + 7) (7 * length c.args.more.now) (λ ps. put p (without_all gone ps)) (put_zeros come) one three new c.put_for.new.self.root c.put_key.new.self.root c.put_missing.new.self.root
-            first (zeros told_three) in
-        record {
-          place_now = c.in-Ok.place;
-          changed = come_by (0 + 7 + 7 * length c.args.more.now) (λ ps. put_zeros come (put p (without_all gone ps))) old one new c.put_for.new.self.root c.put_missing.new.self.root pairs (all_but c.args.place places) c.args.line.now c.in-Ok.place
+    let told_one : IsTrue one.is_told = subst IsTrue (sym c.put_for.ensures.costs.counts.told) told in
+    let told_two : IsTrue two.is_told = subst IsTrue (sym c.remove_missing.ensures.goes_on.told) told_one in
+    let told_three : IsTrue three.is_told = subst IsTrue (sym c.put_key.ensures.goes_on.told) told_two in
+    let stands = c.in-Ok.ensures.put told pairs places laid there in
+    let first = turns_on 0 7 (without_all gone) (put p) one two three c.put_for.new.self.root c.remove_missing.new.self.root c.put_key.new.self.root
+    (c.in-Ok-remove_missing.ensures.turns told_one) (c.in-Ok-put_key.ensures.turns told_two) in
+    let turned = turns_on (0 + 7) (7 * length c.args.more.now) (λ ps. put p (without_all gone ps)) (put_zeros come) one three new c.put_for.new.self.root c.put_key.new.self.root c.put_missing.new.self.root
+    first (zeros told_three) in
+    record {
+      place_now = c.in-Ok.place;
+      changed = come_by (0 + 7 + 7 * length c.args.more.now) (λ ps. put_zeros come (put p (without_all gone ps))) old one new c.put_for.new.self.root c.put_missing.new.self.root pairs (all_but c.args.place places) c.args.line.now c.in-Ok.place
           stands.laid stands.there stands.unlisted stands.same turned
           (ap (λ (r : Root). r.heap) c.put_missing.ensures.root ∙ ap (λ (r : Root). r.heap) c.put_key.ensures.root ∙ ap (λ (r : Root). r.heap) c.remove_missing.ensures.root);
-        })
+    })
     c.put_missing.ensures.turns
 
 pub returns-in-Ok-put_key-clause-damaged : goal.returns-in-Ok-put_key-clause-damaged
