@@ -8,7 +8,7 @@ bench/gate.py functions CRATE [--test]
                                      proves one crate by one job, and prints the 30 functions that took longest, in processor
                                      seconds; the crates below it must be built (`rt check` in its folder does that)
 
-Other work on the machine makes each figure a little larger, so compare runs of a quiet one. The status is that of `rt ci`.
+Only what the run itself started counts, but other work on the machine makes each figure larger, so compare runs of a quiet one. The status is that of `rt ci`.
 """
 import collections
 import os
@@ -38,15 +38,23 @@ def kind_of(words, folder):
     return "compiling" if "--crate-checked" in words else "proof"
 
 
-def look(seen):
-    """Notes each process of the prover, and what it has taken so far."""
+def is_below(pid, top):
+    """Whether a process is the top one, or was started by one that is below it."""
+    while pid > 1 and pid != top:
+        with open(f"/proc/{pid}/stat", encoding="utf8") as file:
+            pid = int(file.read().rpartition(")")[2].split()[1])
+    return pid == top
+
+
+def look(seen, top):
+    """Notes each process of the prover below the top one, and what it has taken so far."""
     for pid in filter(str.isdigit, os.listdir("/proc")):
         try:
             took, begun = seconds_of(pid)
             if (pid, begun) not in seen:
                 with open(f"/proc/{pid}/cmdline", "rb") as file:
                     words = file.read().decode(errors="replace").split("\0")
-                if words[0] != f"{KIT}/bin/rattle" or "--crate-name" not in words:
+                if words[0] != f"{KIT}/bin/rattle" or "--crate-name" not in words or not is_below(int(pid), top):
                     continue
                 name = words[words.index("--crate-name") + 1]
                 seen[pid, begun] = [name, kind_of(words, os.readlink(f"/proc/{pid}/cwd")), 0.0, words[1] == "check"]
@@ -61,7 +69,7 @@ def gate(words):
     seen, begun = {}, time.time()
     ran = subprocess.Popen(["rt", "ci", *words], cwd=TOP)
     while ran.poll() is None:
-        look(seen)
+        look(seen, ran.pid)
         time.sleep(0.2)
     table, count = collections.defaultdict(float), collections.Counter()
     for name, kind, took, is_check in seen.values():

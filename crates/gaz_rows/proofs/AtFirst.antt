@@ -1,12 +1,11 @@
 -- What areas mirror is a gazetteer, and at first it is the empty one.
-use Rattle.std.proofs.Common.{◌≡◌, ◌<◌, ◌≤◌, ℕ, List, [], ◌∷◌, length, refl, sym, subst, arith, inl, inr}
-use Rattle.std.specs.Prelude.{◌⊎◌, All, AllPairs}
+use Rattle.std.proofs.Common.{◌≤◌, [], refl, sym, subst, arith, inl, inr}
 use Rattle.gaz_plain.specs.Gazetteer.{Gazetteer, empty}
 use Rattle.gaz_num.specs.declared.words.Table.{Table}
 use Rattle.gaz_num.specs.declared.words.Table.TheVariants.{Rows, Alternates, Links, Countries, Codes}
-use Rattle.gaz_plain.specs.Gazetteer.{IsGazetteer, IsTable, IsLine, KeysRise, kind_in, limit_of, lines_in}
+use Rattle.gaz_plain.specs.Gazetteer.{IsGazetteer, IsTable, limit_of, lines_in}
 use Rattle.gaz_redo.specs.Content.{Contents}
-use Rattle.gaz_rows.specs.Content.{Mirrors, HasGaz}
+use Rattle.gaz_rows.specs.Content.{HasGaz}
 use Rattle.gaz_rows.specs.Laws.{MirroredIsGazetteer, EmptyAtFirst}
 
 no_lines : (table : Table) → 0 ≤ limit_of table → IsTable table []

@@ -1,19 +1,16 @@
 -- One call on a record and some on the tree make what a line changes.
-use Rattle.std.proofs.Common.{◌≡◌, ◌≤◌, ◌+◌, ◌*◌, ◌^◌, ℕ, List, [], ◌∷◌, length, refl, sym, ◌∙◌, ap, subst, arith, inl, inr}
-use Rattle.std.specs.Prelude.{Result, Ok, Err, IfErr, Contains, Option, Some, None, unwrap_or}
+use Rattle.std.proofs.Common.{◌≡◌, ◌≤◌, ◌+◌, ℕ, List, [], ◌∷◌, length, sym, ◌∙◌, subst, arith}
+use Rattle.std.specs.Prelude.{Result, Contains, Some, None}
 use Rattle.gaz_page.specs.declared.pages.PageFault.{PageFault}
 use Rattle.gaz_page.specs.declared.tree_root.Root.{Root}
-use Rattle.gaz_page.specs.Pages.{PagesView, NotDamaged}
+use Rattle.gaz_page.specs.Pages.{PagesView}
 use Rattle.gaz_leaf.specs.Node.{Pair, key_of}
-use Rattle.gaz_tree.specs.Pairs.{put, without}
+use Rattle.gaz_tree.specs.Pairs.{without}
 use Rattle.gaz_heap.specs.Place.{record_at}
-use Rattle.gaz_tree.proofs.Lists.{length-put_most}
-use Rattle.gaz_rows.specs.Laid.{IsLaid, HasRoom, SameRecords, all_but}
-use Rattle.gaz_rows.specs.Work.{TurnsPairs, IsSoundWith, HasAdded, HasDropped, HasPutFor, put_zeros, without_all, missing_in}
-use Rattle.gaz_rows.specs.Steps.{RecordsLeft, with_new}
-use Rattle.gaz_rows.specs.Change.{IsChanged, HasLeft}
+use Rattle.gaz_rows.specs.Laid.{IsLaid, SameRecords, all_but}
+use Rattle.gaz_rows.specs.Work.{TurnsPairs, IsSoundWith, HasDropped, without_all}
+use Rattle.gaz_rows.specs.Change.{IsChanged}
 use Rattle.gaz_rows.proofs.Members.{head_is_in, tail_is_in}
-use Rattle.gaz_rows.proofs.Keyed.{some_inj}
 use Rattle.gaz_rows.proofs.LaidSlots.{among_all}
 use Rattle.gaz_rows.proofs.Working.{less_room, without_fewer}
 

@@ -1,6 +1,5 @@
 -- Lines of a gazetteer have keys of 32 bytes. That of their bytes stands in gaz_keys.
-use Rattle.std.proofs.Common.{◌≡◌, ℕ, List, ap, subst, sym, refl}
-use Rattle.gaz_num.specs.declared.words.Kind.{Kind}
+use Rattle.std.proofs.Common.{ℕ, List}
 use Rattle.gaz_num.specs.declared.words.Table.{Table}
 use Rattle.gaz_num.specs.declared.words.Table.TheVariants.{Rows, Alternates, Links, Countries, Codes}
 use Rattle.gaz_plain.specs.Gazetteer.{IsLine, kind_in}

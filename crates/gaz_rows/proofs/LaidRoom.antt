@@ -1,5 +1,5 @@
 -- No fewer pages can be taken where all free pages stay free.
-use Rattle.std.proofs.Common.{◌≡◌, ◌≤◌, ◌-◌, ℕ, false, eqb, List, length, [], ◌∷◌, subst, arith, inl, inr}
+use Rattle.std.proofs.Common.{◌≡◌, ◌≤◌, ℕ, false, eqb, List, length, [], ◌∷◌, subst, arith, inl, inr}
 use Rattle.std.specs.List.{IsDistinct, AllByRecursion}
 use Rattle.std.specs.Cmp.{nat_eq_equiv}
 use Rattle.std.proofs.lemmas.Bool.{eqb-true, ne_eqb}

@@ -1,5 +1,5 @@
 -- A look at the next line of a scan, and looks one after the other.
-use Rattle.std.proofs.Common.{◌≡◌, ◌<◌, ◌≤◌, ◌+◌, ◌^◌, ℕ, suc, List, [], ◌∷◌, length, refl, sym, ◌∙◌, ap, arith, subst, true, false, Some, None, Result, Ok, Err}
+use Rattle.std.proofs.Common.{◌≡◌, ◌<◌, ◌≤◌, ◌+◌, ◌^◌, ℕ, suc, List, [], ◌∷◌, refl, sym, ◌∙◌, ap, arith, subst, true, false, Some, None, Result, Ok, Err}
 use Rattle.std.specs.Prelude.{IsTrue, IsSome, Contains}
 use Rattle.gaz_page.specs.Pages.{PagesView, SamePages, Counts}
 use Rattle.gaz_heap.specs.Place.{record_at}

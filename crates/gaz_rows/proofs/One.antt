@@ -1,19 +1,18 @@
 -- Pages stand for one gazetteer.
-use Rattle.std.proofs.Common.{◌≡◌, ◌<◌, ◌≤◌, ℕ, List, [], ◌∷◌, length, refl, sym, ◌∙◌, ap, arith, subst, inl, inr, true, false, Option, Some, None}
-use Rattle.std.specs.Prelude.{◌⊎◌, Contains, AllPairs, option_and_then, unwrap_or}
+use Rattle.std.proofs.Common.{◌≡◌, ℕ, List, [], sym, ◌∙◌, ap, arith, subst, inl, inr, Option, Some}
+use Rattle.std.specs.Prelude.{Contains, option_and_then}
 use Rattle.std.specs.Ordering.{ordering_reverse}
 use Rattle.std.specs.declared.cmp.Ordering.TheVariants.{Less, Greater}
 use Rattle.std.proofs.lemmas.Cmp.{nat_list_cmp_total}
 use Rattle.gaz_num.specs.Pieces.{column}
-use Rattle.gaz_plain.specs.Gazetteer.{Gazetteer, key_cmp}
+use Rattle.gaz_plain.specs.Gazetteer.{Gazetteer}
 use Rattle.gaz_num.specs.declared.words.Table.{Table}
 use Rattle.gaz_num.specs.declared.words.Table.TheVariants.{Rows, Alternates, Links, Countries, Codes}
-use Rattle.gaz_plain.specs.Gazetteer.{lines_in, key_of, KeysRise, IsGazetteer, IsLine, kind_in}
+use Rattle.gaz_plain.specs.Gazetteer.{lines_in, key_of, KeysRise, IsLine, kind_in}
 use Rattle.gaz_page.specs.declared.tree_root.Root.{Root}
-use Rattle.gaz_keys.specs.Parts.{tag_of, has_place}
 use Rattle.gaz_keys.specs.Keys.{IsKey}
-use Rattle.gaz_keys.specs.Lines.{key_at, more_keys}
-use Rattle.gaz_keys.proofs.Tags.{contained, tag_for, tag_at, tag_has_place, tags_differ, more_placeless}
+use Rattle.gaz_keys.specs.Lines.{more_keys}
+use Rattle.gaz_keys.proofs.Tags.{tag_at}
 use Rattle.gaz_rows.specs.Index.{Slots, line_key, IsKeyOf, IsIndexed}
 use Rattle.gaz_heap.specs.Place.{record_at}
 use Rattle.gaz_leaf.specs.Node.{Pair}
@@ -21,7 +20,7 @@ use Rattle.gaz_tree.specs.Tree.{IsTop, tree_pairs}
 use Rattle.gaz_page.specs.Area.{page_at}
 use Rattle.gaz_redo.specs.Content.{Contents}
 use Rattle.gaz_rows.specs.Stands.{StandsForBut, StandsFor, value_in}
-use Rattle.gaz_rows.specs.Content.{Mirrors, IsNamed, HasGaz, side_bytes}
+use Rattle.gaz_rows.specs.Content.{IsNamed, HasGaz, side_bytes}
 use Rattle.gaz_rows.specs.Laws.{PagesHaveOne, AreasHaveOne}
 use Rattle.std.proofs.lemmas.List.Elements.{All-contains}
 use Rattle.gaz_rows.proofs.Fit.{key_fits}

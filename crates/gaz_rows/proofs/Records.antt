@@ -1,6 +1,6 @@
 -- A record that is put, or dropped, by the page for new records that the root names.
-use Rattle.std.proofs.Common.{◌≡◌, ◌<◌, ◌≤◌, ◌+◌, ◌-◌, ◌^◌, ℕ, List, [], ◌∷◌, length, refl, sym, ◌∙◌, ap, subst, arith, inl, inr}
-use Rattle.std.specs.Prelude.{◌≢◌, ◌⊎◌, true, false, IsTrue, Result, Ok, Err, IfErr, Contains, Option, None, Some}
+use Rattle.std.proofs.Common.{◌≡◌, ◌<◌, ◌≤◌, ◌+◌, ◌-◌, ◌^◌, ℕ, List, [], ◌∷◌, refl, sym, ◌∙◌, arith, inl, inr}
+use Rattle.std.specs.Prelude.{◌⊎◌, true, false, Result, Ok, Err, IfErr, Contains, None, Some}
 use Rattle.gaz_page.specs.declared.pages.PageFault.{PageFault}
 use Rattle.gaz_page.specs.declared.pages.PageFault.TheVariants.{Failed, Damaged, Memory}
 use Rattle.gaz_page.specs.declared.tree_root.Root.{Root}
@@ -10,9 +10,9 @@ use Rattle.gaz_heap.specs.Place.{page_of, record_at}
 use Rattle.gaz_heap.specs.Facts.{IsHeap, Puts, Drops, PutFails}
 use Rattle.gaz_heap.specs.Heap.{HasUsed, DropDamage}
 use Rattle.gaz_keys.proofs.Tags.{contained, contained_none}
-use Rattle.gaz_rows.specs.Laid.{IsLaid, LaidWith, HasRoom, ends_of}
+use Rattle.gaz_rows.specs.Laid.{IsLaid, HasRoom}
 use Rattle.gaz_rows.specs.Work.{HasAdded, HasDropped}
-use Rattle.gaz_rows.proofs.Members.{head_is_in, tail_is_in}
+use Rattle.gaz_rows.proofs.Members.{head_is_in}
 use Rattle.gaz_rows.proofs.LaidKept.{after_root}
 use Rattle.gaz_rows.proofs.LaidParts.{heap_of}
 use Rattle.gaz_rows.proofs.LaidPut.{after_record_put_alone}

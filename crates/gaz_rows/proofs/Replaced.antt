@@ -9,9 +9,9 @@ use Rattle.gaz_num.specs.declared.words.Table.TheVariants.{Rows, Alternates, Lin
 use Rattle.gaz_plain.specs.Gazetteer.{lines_in}
 use Rattle.gaz_keys.specs.Keys.{place_key, IsKey}
 use Rattle.gaz_keys.specs.Parts.{tag_of, has_place}
-use Rattle.gaz_keys.specs.Lines.{more_keys, key_at}
+use Rattle.gaz_keys.specs.Lines.{more_keys}
 use Rattle.gaz_keys.proofs.Tags.{contained, tag_for, tag_at, more_placeless}
-use Rattle.gaz_rows.specs.Index.{Slots, line_key, IsKeyOf, IsIndexed, SlotsDiffer}
+use Rattle.gaz_rows.specs.Index.{Slots, line_key, IsKeyOf, IsIndexed}
 use Rattle.gaz_rows.proofs.Members.{head_is_in, tail_is_in}
 use Rattle.gaz_rows.proofs.Keyed.{some_inj}
 

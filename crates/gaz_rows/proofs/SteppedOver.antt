@@ -1,6 +1,6 @@
 -- A step over pages that stand for a gazetteer, behind questions that left them as they were.
-use Rattle.std.proofs.Common.{◌≡◌, ◌≢◌, ◌<◌, ◌≤◌, ◌+◌, ◌-◌, ◌^◌, ℕ, List, [], ◌∷◌, length, refl, sym, ◌∙◌, ap, subst, arith, inl, inr, true, false, Bool, Option, Some, None, Ok, Err}
-use Rattle.std.specs.Prelude.{Contains, IsSome, is_some, IsTrue, IsSome, option_and_then, nat_le, if◌then◌else◌}
+use Rattle.std.proofs.Common.{◌≡◌, ◌<◌, ◌≤◌, ◌+◌, ◌-◌, ℕ, List, [], ◌∷◌, length, refl, sym, ◌∙◌, ap, subst, true, false, Bool, Option, Some, None, Ok, Err}
+use Rattle.std.specs.Prelude.{Result, IfErr, Contains, IsSome, is_some, IsTrue, IsSome, nat_le, if◌then◌else◌}
 use Rattle.std.proofs.lemmas.Bool.{leb-true}
 use Rattle.std.proofs.lemmas.Slice.Eq.{bytes_eq-Decides}
 use Rattle.gaz_num.specs.declared.words.Kind.{Kind}
@@ -13,7 +13,7 @@ use Rattle.gaz_num.specs.Check.{reason_against, key_in, line_limit, tests_of_tex
 use Rattle.gaz_name.specs.Name.{first_bytes}
 use Rattle.gaz_page.specs.declared.tree_root.Root.{Root}
 use Rattle.gaz_page.specs.Pages.{PagesView, SamePages}
-use Rattle.gaz_plain.specs.Gazetteer.{Gazetteer, IsGazetteer, table_of, is_delete, is_one_line, after_line, line_with, full}
+use Rattle.gaz_plain.specs.Gazetteer.{Gazetteer, IsGazetteer, table_of, is_delete, is_one_line, after_line, line_with, full, limit_of}
 use Rattle.gaz_leaf.specs.Node.{Pair, key_of}
 use Rattle.gaz_tree.specs.Pairs.{lookup}
 use Rattle.gaz_tree.specs.Tree.{IsTop}
@@ -24,17 +24,22 @@ use Rattle.gaz_rows.specs.declared.fault.StepFault.{StepFault}
 use Rattle.gaz_rows.specs.declared.fault.StepFault.TheVariants.{Malformed, Full, Failed, Damaged, Memory}
 use Rattle.gaz_rows.specs.declared.fault.AskFault.{AskFault}
 use Rattle.gaz_rows.specs.declared.fault.AskFault.TheVariants as ask
-use Rattle.gaz_rows.specs.Index.{Slots, line_key, SlotsDiffer, IsIndexed}
+use Rattle.gaz_rows.specs.Index.{Slots, SlotsDiffer, IsIndexed}
 use Rattle.gaz_rows.specs.Stands.{StandsForBut, AreUsedOnce, places_in, value_in}
-use Rattle.gaz_rows.specs.Laid.{ends_of}
+use Rattle.gaz_rows.specs.Laid.{IsLaid, ends_of}
 use Rattle.gaz_rows.specs.Found.{HasRecord}
 use Rattle.gaz_rows.specs.Faults.{step_fault_by}
 use Rattle.gaz_rows.specs.Store.{IsSound, IsStepFaultOf}
-use Rattle.gaz_rows.specs.Steps.{MeetsLine, IsSlotFor, slot_with, IsSlotOf}
-use Rattle.gaz_rows.specs.Stepping.{StandsAt, IsKeyOver, ComesRightly, ChangesRightly}
+use Rattle.gaz_rows.specs.declared.target.Target.{Target}
+use Rattle.gaz_rows.specs.declared.target.Target.TheVariants.{Key, Code}
+use Rattle.gaz_rows.specs.Target.{IsTargetOf}
+use Rattle.gaz_rows.specs.Steps.{MeetsLine, IsSlotFor, slot_with, IsSlotOf, counted, recounted}
+use Rattle.gaz_rows.specs.Stepping.{StandsAt, IsKeyOver, ComesRightly, ChangesRightly, HasSteppedTo}
+use Rattle.gaz_rows.specs.Change.{HasCome, HasGone, HasReplaced}
+use Rattle.gaz_keys.specs.Lines.{more_keys}
 use Rattle.gaz_rows.proofs.PairsStands.{meets_line}
 use Rattle.gaz_rows.proofs.ReindexedSlots.{slot_kept, slot_new, slots_agree}
-use Rattle.gaz_rows.proofs.SteppedStores.{laid_here, left_here, full_here, place_there, was_keyed, was_counted}
+use Rattle.gaz_rows.proofs.SteppedStores.{laid_here, left_here, full_here, place_there, was_keyed, was_counted, come_stands, go_stands, replace_stands, same_stands, none_stands}
 
 -- a test that passed
 passed : (why : Reason) (b : Bool) (rest : List (Reason × Bool)) → first_failing ((why, b) ∷ rest) ≡ None → b ≡ true
@@ -95,7 +100,7 @@ code_over gaz slots is differ code slot for kind line table keyed key key_is =
 
 -- ---- pages that a question left as they were
 
-pub stands_same : (waiting : List (List ℕ)) (gaz : Gazetteer) (old new : PagesView) (root now : Root) → SamePages old new → now ≡ root → StandsForBut waiting gaz old.page (ends_of old root) → StandsForBut waiting gaz new.page (ends_of new now)
+abbrev pub stands_same : (waiting : List (List ℕ)) (gaz : Gazetteer) (old new : PagesView) (root now : Root) → SamePages old new → now ≡ root → StandsForBut waiting gaz old.page (ends_of old root) → StandsForBut waiting gaz new.page (ends_of new now)
 stands_same waiting gaz old new root now same root_is stands = record {
   is_gazetteer = stands.is_gazetteer;
   date = stands.date ∙ ap (λ (r : Root). Some r.day) (sym root_is);
@@ -158,3 +163,64 @@ module _ (gaz : Gazetteer) (v : PagesView) (root : Root) (stands : StandsForBut 
       (was_counted gaz v root stands over.now kind line (numbers_of kind line has).0 key meets over.is place was at)
   change_rightly place was at told Failed right = tt
   change_rightly place was at told Memory right = tt
+
+  -- What a line has changed stands for the gazetteer after it.
+  pub come_over : (new : PagesView) (last : Root) → is_delete kind ≡ false → lookup (key_of key) stands.pairs ≡ None → HasCome v new last stands.pairs (places_in stands.pairs) key (more_keys (table_of kind) line) line
+      → counted root.counts (table_of kind) < limit_of (table_of kind) → last.counts ≡ recounted root.counts (table_of kind) (counted root.counts (table_of kind) + 1) → last.day ≡ root.day → HasSteppedTo gaz kind line new last
+  come_over = come_stands gaz v root stands over.now kind line (numbers_of kind line has).0 key meets over.is
+
+  pub go_over : (new : PagesView) (last : Root) (place : ℕ) (was : List ℕ) → is_delete kind ≡ true → StandsAt v key stands.pairs place was → HasGone v new last stands.pairs (places_in stands.pairs) key (more_keys (table_of kind) was) place
+      → last.counts ≡ recounted root.counts (table_of kind) (counted root.counts (table_of kind) - 1) → last.day ≡ root.day → HasSteppedTo gaz kind line new last
+  go_over = go_stands gaz v root stands over.now kind line (numbers_of kind line has).0 key meets over.is
+
+  pub replace_over : (new : PagesView) (last : Root) (place : ℕ) (was : List ℕ) → is_delete kind ≡ false → StandsAt v key stands.pairs place was
+      → HasReplaced v new last stands.pairs (places_in stands.pairs) key (more_keys (table_of kind) was) (more_keys (table_of kind) line) place line → last.counts ≡ root.counts → last.day ≡ root.day
+      → HasSteppedTo gaz kind line new last
+  replace_over = replace_stands gaz v root stands over.now kind line (numbers_of kind line has).0 key meets over.is
+
+  pub same_over : (place : ℕ) → is_delete kind ≡ false → StandsAt v key stands.pairs place line → HasSteppedTo gaz kind line v root
+  same_over = same_stands gaz v root stands over.now kind line (numbers_of kind line has).0 key meets over.is
+
+  pub none_over : is_delete kind ≡ true → lookup (key_of key) stands.pairs ≡ None → HasSteppedTo gaz kind line v root
+  none_over = none_stands gaz v root stands over.now kind line (numbers_of kind line has).0 key meets over.is
+
+  pub laid_over : IsLaid v root stands.pairs (root.heap ∷ []) (places_in stands.pairs)
+  laid_over = laid_here gaz v root stands over.now kind line (numbers_of kind line has).0 key meets over.is
+
+  pub there_over : (place : ℕ) → lookup (key_of key) stands.pairs ≡ Some place → Contains (places_in stands.pairs) place
+  there_over = place_there gaz v root stands over.now kind line (numbers_of kind line has).0 key meets over.is
+
+-- What a line speaks of has a key in its table.
+pub target_keyed : (kind : Kind) (line : List ℕ) (target : Target) → IsTargetOf kind line (Some target) → IsSome (key_in kind line)
+target_keyed kind line (Key key) is = is.0
+target_keyed kind line (Code code) is = ap is_some is.1
+
+-- Pages that stand for a gazetteer, behind two questions that left them as they were: the key for a line, and what stands there.
+pub record Behind (gaz : Gazetteer) (v : PagesView) (root : Root) (stands : StandsForBut [] gaz v.page (ends_of v root)) (between now : PagesView) (root_between root_now : Root) (kind : Kind) (line key : List ℕ) : Type 0 where
+  pub told : IsTrue now.is_told
+  pub stands_between : StandsForBut [] gaz between.page (ends_of between root_between)
+  pub stands_now : StandsForBut [] gaz now.page (ends_of now root_now)
+  pub same_now : SamePages between now
+  pub over : IsKeyOver gaz stands_now.slots kind line key
+  pub same_pairs : stands_between.pairs ≡ stands_now.pairs
+  pub recorded : HasRecord key between stands_between.pairs
+
+abbrev pub behind : (gaz : Gazetteer) (v between now : PagesView) (root root_between root_now : Root) (stands : StandsForBut [] gaz v.page (ends_of v root)) (kind : Kind) (line key : List ℕ) → IsTrue (is_one_line line) → reason_against kind line ≡ None
+    → IsSome (key_in kind line) → IsTrue now.is_told → SamePages v between → root_between ≡ root → SamePages between now → root_now ≡ root_between → IsKeyOver gaz stands.slots kind line key
+    → Behind gaz v root stands between now root_between root_now kind line key
+behind gaz v between now root root_between root_now stands kind line key one accepted has told first first_root second second_root over =
+    let stands_between = stands_same [] gaz v between root root_between first first_root stands in
+    record {
+      told = told;
+      stands_between = stands_between;
+      stands_now = stands_same [] gaz between now root_between root_now second second_root stands_between;
+      same_now = second;
+      over = over;
+      same_pairs = refl;
+      recorded = record_here gaz between root_between stands_between kind line key one accepted has over;
+    }
+
+-- what follows where an answer is a fault
+pub map_err : {T F : Type 0} {P Q : F → Type 0} (result : Result T F) → ((fault : F) → P fault → Q fault) → IfErr result P → IfErr result Q
+map_err (Ok value) f p = tt
+map_err (Err fault) f p = f fault p

@@ -1,16 +1,15 @@
 -- What a line has changed stands under another root with the same tree and the same page for new records, and what its faults come to.
-use Rattle.std.proofs.Common.{◌≡◌, ◌≤◌, ℕ, List, [], ◌∷◌, refl, sym, ◌∙◌, ap, subst, inl, inr}
-use Rattle.std.specs.Prelude.{Option, Some, None, Contains, IsTrue}
+use Rattle.std.proofs.Common.{◌≡◌, ℕ, List, [], ◌∷◌, sym, subst}
+use Rattle.std.specs.Prelude.{Option, Contains, IsTrue}
 use Rattle.gaz_num.specs.declared.words.Table.{Table}
 use Rattle.gaz_page.specs.declared.pages.PageFault.{PageFault}
 use Rattle.gaz_page.specs.declared.pages.PageFault.TheVariants as page
 use Rattle.gaz_page.specs.declared.tree_root.Root.{Root}
 use Rattle.gaz_page.specs.Pages.{PagesView, NotDamaged}
 use Rattle.gaz_leaf.specs.Node.{Pair}
-use Rattle.gaz_keys.specs.Lines.{IsKeyed}
 use Rattle.gaz_rows.specs.declared.fault.StepFault.{StepFault}
 use Rattle.gaz_rows.specs.Laid.{IsLaid}
-use Rattle.gaz_rows.specs.Steps.{with_new, counted}
+use Rattle.gaz_rows.specs.Steps.{with_new}
 use Rattle.gaz_rows.specs.Faults.{step_fault_of}
 use Rattle.gaz_rows.specs.Change.{IsChanged, HasLeft}
 use Rattle.gaz_rows.specs.Stepping.{ComesRightly, ChangesRightly}

@@ -1,5 +1,5 @@
 -- Pages that stand for a gazetteer, once a line has come, gone or taken the place of another, stand for the gazetteer after it.
-use Rattle.std.proofs.Common.{◌≡◌, ◌≢◌, ◌<◌, ◌≤◌, ◌+◌, ◌-◌, ◌^◌, ℕ, List, [], ◌∷◌, length, refl, sym, ◌∙◌, ap, subst, arith, inl, inr, true, false, Bool, Option, Some, None, Ok, Err}
+use Rattle.std.proofs.Common.{◌≡◌, ◌<◌, ◌≤◌, ◌+◌, ◌-◌, ℕ, List, [], ◌∷◌, refl, sym, ◌∙◌, ap, subst, arith, inl, inr, true, false, Option, Some, None, Ok, Err}
 use Rattle.std.specs.Prelude.{Contains, option_and_then, if◌then◌else◌}
 use Rattle.std.proofs.lemmas.Bool.{cases_eq}
 use Rattle.std.proofs.lemmas.List.Elements.{All-contains}
@@ -18,10 +18,10 @@ use Rattle.gaz_keys.specs.Parts.{has_place, tag_of}
 use Rattle.gaz_keys.specs.Lines.{more_keys, IsKeyed}
 use Rattle.gaz_keys.proofs.Tags.{contained}
 use Rattle.gaz_rows.specs.Index.{Slots, line_key}
-use Rattle.gaz_rows.specs.Stands.{StandsForBut, places_in, counts_of, tag_in}
+use Rattle.gaz_rows.specs.Stands.{StandsForBut, places_in, counts_of}
 use Rattle.gaz_rows.specs.Laid.{IsLaid, ends_of, all_but}
 use Rattle.gaz_rows.specs.Work.{put_zeros, without_all, missing_in}
-use Rattle.gaz_rows.specs.Steps.{MeetsLine, IsLeft, RecordsLeft, pair_at, more_by, line_put, old_by, other_places, but_old, with_new, pairs_with, counted, recounted, one_if}
+use Rattle.gaz_rows.specs.Steps.{MeetsLine, RecordsLeft, pair_at, more_by, line_put, old_by, other_places, but_old, with_new, pairs_with, counted, recounted, one_if}
 use Rattle.gaz_rows.specs.Change.{IsChanged, HasCome, HasGone, HasReplaced, HasLeft}
 use Rattle.gaz_rows.specs.Stepping.{StandsAt}
 use Rattle.gaz_rows.proofs.Members.{head_is_in, tail_is_in}

@@ -1,6 +1,6 @@
 -- The key of a link in the tree, by its key in the table.
-use Rattle.std.proofs.Common.{◌≡◌, ◌≢◌, ℕ, List, [], ◌∷◌, refl, sym, ◌∙◌, ap, subst, Option, Some, None}
-use Rattle.std.specs.Prelude.{option_map, option_and_then, unwrap_or, slice_index, IsSome, is_some}
+use Rattle.std.proofs.Common.{◌≡◌, ◌≢◌, ℕ, List, [], ◌∷◌, sym, ◌∙◌, ap, subst, Option, Some, None}
+use Rattle.std.specs.Prelude.{unwrap_or, slice_index, IsSome, is_some}
 use Rattle.gaz_num.specs.Pieces.{column}
 use Rattle.gaz_num.specs.Numbers.{id_in}
 use Rattle.gaz_num.specs.Check.{reason_against, key_in, class_in, link_key as link_numbers}

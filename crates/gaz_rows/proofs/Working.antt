@@ -1,6 +1,6 @@
 -- Calls on the tree leave what is laid.
-use Rattle.std.proofs.Common.{◌≡◌, ◌<◌, ◌≤◌, ◌+◌, ◌*◌, ◌^◌, ℕ, suc, List, [], ◌∷◌, length, refl, sym, ◌∙◌, ap, subst, arith, inl, inr}
-use Rattle.std.specs.Prelude.{◌⊎◌, Bool, true, false, ◌==◌, not, if◌then◌else◌, bytes_eq, Result, Ok, Err, IfErr, OnOk}
+use Rattle.std.proofs.Common.{◌≡◌, ◌≤◌, ◌+◌, ◌*◌, ◌^◌, ℕ, suc, List, [], ◌∷◌, length, refl, sym, ◌∙◌, ap, subst, arith, inl, inr}
+use Rattle.std.specs.Prelude.{Bool, true, false, ◌==◌, not, if◌then◌else◌, bytes_eq, Result, Ok, Err, OnOk}
 use Rattle.std.specs.List.{list_any}
 use Rattle.gaz_page.specs.declared.pages.PageFault.{PageFault}
 use Rattle.gaz_page.specs.declared.pages.PageFault.TheVariants.{Failed, Damaged, Memory}
@@ -13,7 +13,7 @@ use Rattle.gaz_tree.specs.Put.{Trades, Changes}
 use Rattle.gaz_tree.specs.Remove.{Returns}
 use Rattle.gaz_tree.specs.Stands.{Stands, OfTree, PutDamage, IsWith, IsWithout}
 use Rattle.gaz_tree.proofs.Lists.{length-put_most}
-use Rattle.gaz_rows.specs.Laid.{IsLaid, LaidBy, HasRoom, tree_in, SameRecords}
+use Rattle.gaz_rows.specs.Laid.{IsLaid, LaidBy, HasRoom, tree_in}
 use Rattle.gaz_rows.specs.Work.{TurnsPairs, IsSoundWith, put_zeros, without_all, missing_in}
 use Rattle.gaz_rows.proofs.LaidKeys.{after_key_put, after_key_removed}
 
@@ -112,6 +112,15 @@ pub sound_within : {T : Type 0} (result : Result T PageFault) (most least more f
     → IsSoundWith most more v root result
 sound_within result most least more fewer v root less few sound pairs kept places laid room within =
     sound pairs kept places laid (less_room most least v less room) (omega (arith, few, within))
+
+-- what follows from two facts of an answer that is Ok
+pub both_ok : {T F : Type 0} {P Q R : Type 0} (result : Result T F) → (P → Q → R) → OnOk result P → OnOk result Q → OnOk result R
+both_ok (Ok value) f p q = f p q
+both_ok (Err fault) f p q = tt
+
+pub all_ok : {T F : Type 0} {P Q R S : Type 0} (result : Result T F) → (P → Q → R → S) → OnOk result P → OnOk result Q → OnOk result R → OnOk result S
+all_ok (Ok value) f p q r = f p q r
+all_ok (Err fault) f p q r = tt
 
 module _ (old mid new : PagesView) (root between now : Root) (others keys : List (List ℕ)) (key : List ℕ) (rest : List (List ℕ)) (is : keys ≡ key ∷ rest) where
   long : length keys ≡ suc (length rest)

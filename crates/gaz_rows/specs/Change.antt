@@ -1,7 +1,7 @@
 -- What one line changes on the pages: it comes, it goes, or it takes the place of another.
-use Rattle.std.specs.Prelude.{◌≡◌, ◌≤◌, ◌+◌, ◌^◌, ℕ, List, [], ◌∷◌, length, Option, Some, None, Result, IfErr}
+use Rattle.std.specs.Prelude.{◌≡◌, ◌≤◌, ◌+◌, ◌^◌, ℕ, List, [], ◌∷◌, length, Option, Some, None}
 use Rattle.gaz_page.specs.declared.tree_root.Root.{Root}
-use Rattle.gaz_page.specs.Pages.{PagesView, NotDamaged}
+use Rattle.gaz_page.specs.Pages.{PagesView}
 use Rattle.gaz_leaf.specs.Node.{Pair, key_of}
 use Rattle.gaz_tree.specs.Pairs.{put, without}
 use Rattle.gaz_heap.specs.Place.{record_at}

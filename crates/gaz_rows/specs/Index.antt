@@ -1,5 +1,5 @@
 -- The index of a gazetteer: which keys its lines have, and what stands at them.
-use Rattle.std.specs.Prelude.{◌≡◌, ◌<◌, ◌^◌, ℕ, List, ◌∷◌, length, Option, Some, IsSome, Contains, All, option_and_then}
+use Rattle.std.specs.Prelude.{◌≡◌, ◌<◌, ◌^◌, ℕ, List, ◌∷◌, Option, Some, IsSome, Contains, option_and_then}
 use Rattle.gaz_num.specs.Pieces.{column}
 use Rattle.gaz_plain.specs.Gazetteer.{Gazetteer}
 use Rattle.gaz_num.specs.declared.words.Table.{Table}

@@ -1,5 +1,5 @@
 -- What pages and a root page stand for.
-use Rattle.std.specs.Prelude.{◌≡◌, ◌≢◌, ◌⊎◌, ◌≤◌, ◌<◌, ◌+◌, ◌-◌, ◌*◌, ◌/◌, ◌^◌, ℕ, true, false, Bool, IsTrue, List, [], ◌∷◌, length, map, filter, Option, Some, if◌then◌else◌, All, Contains, bytes_eq}
+use Rattle.std.specs.Prelude.{◌≡◌, ◌≢◌, ◌⊎◌, ◌≤◌, ◌<◌, ◌+◌, ◌-◌, ◌*◌, ◌/◌, ◌^◌, ℕ, true, false, IsTrue, List, [], ◌∷◌, length, map, filter, Option, Some, if◌then◌else◌, All, Contains, bytes_eq}
 use Rattle.std.specs.List.{list_any}
 use Rattle.gaz_plain.specs.Gazetteer.{Gazetteer}
 use Rattle.gaz_plain.specs.Gazetteer.{IsGazetteer}

@@ -1,9 +1,8 @@
 -- What a step promises, and its parts for a line that comes, goes, or takes the place of another.
-use Rattle.std.specs.Prelude.{◌≡◌, ◌≢◌, ◌≤◌, ◌+◌, ◌-◌, ℕ, List, [], ◌∷◌, take, Option, Some, None, Result, Ok, Err, OnOk, Contains, IsTrue}
+use Rattle.std.specs.Prelude.{◌≡◌, ◌≤◌, ◌+◌, ℕ, List, [], ◌∷◌, take, Option, Some, None, Result, Ok, Err, Contains, IsTrue}
 use Rattle.gaz_num.specs.declared.words.Kind.{Kind}
 use Rattle.gaz_num.specs.declared.words.Reason.{Reason}
 use Rattle.gaz_num.specs.declared.words.Table.{Table}
-use Rattle.gaz_num.specs.Counts.{RisesOnce}
 use Rattle.gaz_num.specs.declared.words.Table.TheVariants.{Codes}
 use Rattle.gaz_num.specs.Pieces.{column}
 use Rattle.gaz_plain.specs.Gazetteer.{Gazetteer, after_line, limit_of, table_of}
@@ -12,14 +11,14 @@ use Rattle.gaz_page.specs.Pages.{PagesView, SamePages}
 use Rattle.gaz_leaf.specs.Node.{Pair, key_of}
 use Rattle.gaz_tree.specs.Pairs.{lookup}
 use Rattle.gaz_heap.specs.Place.{record_at}
-use Rattle.gaz_keys.specs.Lines.{more_keys, IsKeyed}
+use Rattle.gaz_keys.specs.Lines.{IsKeyed}
 use Rattle.gaz_rows.specs.declared.fault.StepFault.{StepFault}
-use Rattle.gaz_rows.specs.declared.fault.StepFault.TheVariants.{Malformed, Full, Failed, Damaged, Memory}
+use Rattle.gaz_rows.specs.declared.fault.StepFault.TheVariants.{Malformed, Full, Damaged}
 use Rattle.gaz_rows.specs.Laid.{IsLaid}
 use Rattle.gaz_rows.specs.Index.{Slots, line_key}
 use Rattle.gaz_rows.specs.Steps.{SameSlots, IsSlotOf, counted, recounted}
 use Rattle.gaz_rows.specs.Store.{IsStore, IsStepFaultOf, StepFailsOnce}
-use Rattle.gaz_rows.specs.Change.{HasCome, HasGone, HasReplaced, HasLeft}
+use Rattle.gaz_rows.specs.Change.{HasLeft}
 
 -- The line is refused by its check, with this reason, exactly where there is one.
 abbrev pub IsChecked : Option Reason → Result Unit StepFault → Type 0

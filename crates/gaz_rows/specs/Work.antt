@@ -1,5 +1,5 @@
 -- What the parts of a step promise: each one works on the tree or on a record, and leaves the pages laid.
-use Rattle.std.specs.Prelude.{◌≡◌, ◌<◌, ◌≤◌, ◌+◌, ◌*◌, ◌^◌, ℕ, List, [], ◌∷◌, length, filter, not, bytes_eq, Some, Contains, Result, Ok, Err, IfErr}
+use Rattle.std.specs.Prelude.{◌≡◌, ◌≤◌, ◌+◌, ◌^◌, ℕ, List, [], ◌∷◌, length, filter, not, bytes_eq, Some, Contains, Result, IfErr}
 use Rattle.std.specs.List.{list_any}
 use Rattle.gaz_page.specs.declared.pages.PageFault.{PageFault}
 use Rattle.gaz_page.specs.declared.tree_root.Root.{Root}

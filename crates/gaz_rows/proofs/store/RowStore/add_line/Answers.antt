@@ -1,11 +1,10 @@
-use Rattle.std.proofs.Common.{◌+◌, ◌*◌, ◌≤◌, ◌∙◌, ℕ, List, [], ◌∷◌, length, sym, subst, ap, arith}
+use Rattle.std.proofs.Common.{◌+◌, ◌*◌, ◌∙◌, [], ◌∷◌, length, sym, subst, ap, arith}
 use Rattle.std.specs.Prelude.{IsTrue}
 use Rattle.gaz_page.specs.declared.tree_root.Root.{Root}
-use Rattle.gaz_page.specs.Pages.{PagesView}
-use Rattle.gaz_leaf.specs.Node.{Pair, key_of}
-use Rattle.gaz_tree.specs.Pairs.{put, without}
+use Rattle.gaz_leaf.specs.Node.{Pair}
+use Rattle.gaz_tree.specs.Pairs.{put}
 use Rattle.gaz_tree.proofs.Lists.{length-put_most}
-use Rattle.gaz_rows.specs.Work.{TurnsPairs, put_zeros, without_all, missing_in}
+use Rattle.gaz_rows.specs.Work.{put_zeros, missing_in}
 use Rattle.gaz_rows.specs.Steps.{pair_at}
 use Rattle.gaz_rows.proofs.Working.{map_ok, less_room, turns_on}
 use Rattle.gaz_rows.proofs.Changing.{come_by, sound_behind}

@@ -1,5 +1,5 @@
-use Rattle.std.proofs.Common.{refl, subst, sym, ◌∙◌}
-use Rattle.std.specs.Prelude.{Some, [], List}
+use Rattle.std.proofs.Common.{refl, subst, ◌∙◌}
+use Rattle.std.specs.Prelude.{Some, []}
 use Rattle.gaz_tree.specs.Pairs.{put}
 use Rattle.gaz_keys.specs.Lines.{more_keys}
 use Rattle.gaz_rows.specs.Change.{HasCome}

@@ -1,4 +1,3 @@
-use Rattle.std.specs.Prelude.{Ok, Err, Result, IfErr}
 use Rattle.gaz_rows.proofs.Working.{map_ok}
 use Rattle.gaz_rows.proofs.Records.{is_heap, has_dropped, sound_drop_all}
 use Rattle.gaz_rows.proofs.store.RowStore.drop_record.Goals as goal

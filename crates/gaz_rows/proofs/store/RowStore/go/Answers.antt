@@ -1,5 +1,5 @@
-use Rattle.std.proofs.Common.{refl, subst, sym, ◌∙◌}
-use Rattle.std.specs.Prelude.{None, [], List}
+use Rattle.std.proofs.Common.{refl, subst, ◌∙◌}
+use Rattle.std.specs.Prelude.{None, []}
 use Rattle.gaz_leaf.specs.Node.{key_of}
 use Rattle.gaz_tree.specs.Pairs.{without}
 use Rattle.gaz_keys.specs.Lines.{more_keys}

@@ -1,4 +1,3 @@
-use Rattle.std.proofs.Common.{refl}
 use Rattle.gaz_leaf.specs.Node.{key_of}
 use Rattle.gaz_rows.proofs.Working.{tree_is, has_tree, turned_by_put, sound_put}
 use Rattle.gaz_rows.proofs.store.RowStore.put_key.Goals as goal

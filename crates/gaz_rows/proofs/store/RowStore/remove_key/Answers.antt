@@ -1,4 +1,3 @@
-use Rattle.std.proofs.Common.{refl}
 use Rattle.gaz_leaf.specs.Node.{key_of}
 use Rattle.gaz_rows.proofs.Working.{tree_is, has_tree, turned_by_remove}
 use Rattle.gaz_rows.proofs.store.RowStore.remove_key.Goals as goal

@@ -1,0 +1,53 @@
+use Rattle.std.proofs.Common.{sym, ap, subst, ◌∙◌, ◌-◌, ◌≡◌}
+use Rattle.gaz_page.specs.declared.tree_root.Root.{Root}
+use Rattle.gaz_keys.specs.Lines.{more_keys}
+use Rattle.gaz_rows.specs.Stands.{places_in}
+use Rattle.gaz_rows.specs.Steps.{counted, recounted}
+use Rattle.gaz_rows.specs.Stepping.{StandsAt}
+use Rattle.gaz_rows.specs.Change.{HasGone, HasReplaced}
+use Rattle.std.proofs.lemmas.Slice.Eq.{bytes_eq-Decides}
+use Rattle.gaz_rows.proofs.Working.{map_ok, both_ok}
+use Rattle.gaz_rows.proofs.SteppedOver.{go_over, replace_over, same_over, laid_over, there_over}
+use Rattle.gaz_rows.proofs.store.RowStore.change.Goals as goal
+
+pub returns-then-is_delete-clause-stands : goal.returns-then-is_delete-clause-stands
+returns-then-is_delete-clause-stands g c =
+    let v = g.P.Pages.view c.args.self.now.pages in
+    let new = g.P.Pages.view c.go.new.self.pages in
+    let root = c.args.self.now.root in
+    let last = c.go.new.self.root in
+    let table = c.table_of.ensures in
+    both_ok c.go.result
+    (λ gone count told gaz stands over at one.
+    go_over gaz v root stands c.args.kind c.args.line.now c.args.key.now one c.requires.accepted c.requires.keyed over new last c.args.place c.args.was.now
+    (sym c.is_delete.ensures ∙ c.if-is_delete.true) at
+    (subst (λ t. HasGone v new last stands.pairs (places_in stands.pairs) c.args.key.now (more_keys t c.args.was.now) c.args.place) table
+    (gone told stands.pairs (places_in stands.pairs) (laid_over gaz v root stands c.args.kind c.args.line.now c.args.key.now one c.requires.accepted c.requires.keyed over)
+    (there_over gaz v root stands c.args.kind c.args.line.now c.args.key.now one c.requires.accepted c.requires.keyed over c.args.place at.at)))
+    (subst (λ t. last.counts ≡ recounted root.counts t (counted root.counts t - 1)) table count)
+    (ap (λ (r : Root). r.day) c.go.ensures.root))
+    c.go.ensures.gone c.go.ensures.count
+
+pub returns-then-eq-clause-stands : goal.returns-then-eq-clause-stands
+returns-then-eq-clause-stands g c told gaz stands over at one =
+    let v = g.P.Pages.view c.args.self.now.pages in
+    same_over gaz v c.args.self.now.root stands c.args.kind c.args.line.now c.args.key.now one c.requires.accepted c.requires.keyed over c.args.place (sym c.is_delete.ensures ∙ c.if-is_delete.false)
+    (subst (StandsAt v c.args.key.now stands.pairs c.args.place) ((bytes_eq-Decides c.args.was.now c.args.line.now).0 (sym c.eq.ensures ∙ c.if-eq.true)) at)
+
+pub returns-clause-stands : goal.returns-clause-stands
+returns-clause-stands g c =
+    let v = g.P.Pages.view c.args.self.now.pages in
+    let new = g.P.Pages.view c.replace.new.self.pages in
+    let root = c.args.self.now.root in
+    let last = c.replace.new.self.root in
+    let table = c.table_of-2.ensures in
+    map_ok c.replace.result
+    (λ replaced told gaz stands over at one.
+    replace_over gaz v root stands c.args.kind c.args.line.now c.args.key.now one c.requires.accepted c.requires.keyed over new last c.args.place c.args.was.now
+    (sym c.is_delete.ensures ∙ c.if-is_delete.false) at
+    (subst (λ t. HasReplaced v new last stands.pairs (places_in stands.pairs) c.args.key.now (more_keys t c.args.was.now) (more_keys t c.args.line.now) c.args.place c.args.line.now) table
+    (replaced told stands.pairs (places_in stands.pairs) (laid_over gaz v root stands c.args.kind c.args.line.now c.args.key.now one c.requires.accepted c.requires.keyed over)
+    (there_over gaz v root stands c.args.kind c.args.line.now c.args.key.now one c.requires.accepted c.requires.keyed over c.args.place at.at)))
+    c.replace.ensures.count
+    (ap (λ (r : Root). r.day) c.replace.ensures.root))
+    c.replace.ensures.replaced
