@@ -1,6 +1,6 @@
 -- A step over pages that stand for a gazetteer, behind questions that left them as they were.
 use Rattle.std.proofs.Common.{◌≡◌, ◌<◌, ◌≤◌, ◌+◌, ◌-◌, ℕ, List, [], ◌∷◌, length, refl, sym, ◌∙◌, ap, subst, true, false, Bool, Option, Some, None, Ok, Err}
-use Rattle.std.specs.Prelude.{Result, IfErr, Contains, IsSome, is_some, IsTrue, IsSome, nat_le, if◌then◌else◌}
+use Rattle.std.specs.Prelude.{Result, IfOk, IfErr, Contains, IsSome, is_some, IsTrue, IsSome, nat_le, if◌then◌else◌}
 use Rattle.std.proofs.lemmas.Bool.{leb-true}
 use Rattle.std.proofs.lemmas.Slice.Eq.{bytes_eq-Decides}
 use Rattle.gaz_num.specs.declared.words.Kind.{Kind}
@@ -219,6 +219,11 @@ behind gaz v between now root root_between root_now stands kind line key one acc
       same_pairs = refl;
       recorded = record_here gaz between root_between stands_between kind line key one accepted has over;
     }
+
+-- what follows of the value of an answer that is Ok
+pub map_value : {T F : Type 0} {P Q : T → Type 0} (result : Result T F) → ((value : T) → P value → Q value) → IfOk result P → IfOk result Q
+map_value (Ok value) f p = f value p
+map_value (Err fault) f p = tt
 
 -- what follows where an answer is a fault
 pub map_err : {T F : Type 0} {P Q : F → Type 0} (result : Result T F) → ((fault : F) → P fault → Q fault) → IfErr result P → IfErr result Q

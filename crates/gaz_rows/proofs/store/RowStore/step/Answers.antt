@@ -9,7 +9,7 @@ use Rattle.gaz_rows.specs.Change.{HasCome}
 use Rattle.gaz_rows.specs.Stepping.{ComesRightly}
 use Rattle.gaz_rows.proofs.Working.{map_ok, all_ok}
 use Rattle.gaz_rows.proofs.ReindexedTaken.{is_malformed, is_comment}
-use Rattle.gaz_rows.proofs.SteppedOver.{short_line, ask_rightly, target_keyed, behind, at_same, come_over, come_rightly, change_rightly, none_over, laid_over, map_err, stands_same, record_here}
+use Rattle.gaz_rows.proofs.SteppedOver.{short_line, ask_rightly, target_keyed, behind, come_over, come_rightly, none_over, laid_over, map_err, stands_same}
 use Rattle.gaz_rows.proofs.store.RowStore.step.Goals as goal
 
 pub returns-in-Ok-None-clause-steps : goal.returns-in-Ok-None-clause-steps
@@ -24,55 +24,53 @@ pub returns-in-Err-key_of-clause-fault : goal.returns-in-Err-key_of-clause-fault
 returns-in-Err-key_of-clause-fault g c told gaz stands =
     ask_rightly gaz c.args.kind c.args.line.now c.in-Err-key_of.fault c.from.result (c.in-Err-key_of.ensures.damaged told [] gaz stands) c.from.ensures
 
-pub change-requires-clause-short : goal.change-requires-clause-short
-change-requires-clause-short g c = short_line c.args.kind c.args.line.now c.in-Ok-Some.ensures.0
+pub change_at-requires-clause-short : goal.change_at-requires-clause-short
+change_at-requires-clause-short g c = short_line c.args.kind c.args.line.now c.in-Ok-Some.ensures.0
 
 pub come-requires-clause-short : goal.come-requires-clause-short
 come-requires-clause-short g c = short_line c.args.kind c.args.line.now c.in-Ok-Some.ensures.0
 
-pub returns-in-Ok-Some-find-clause-steps : goal.returns-in-Ok-Some-find-clause-steps
-returns-in-Ok-Some-find-clause-steps g c =
-    map_ok c.change.result
+pub returns-in-Ok-Some-place-clause-steps : goal.returns-in-Ok-Some-place-clause-steps
+returns-in-Ok-Some-place-clause-steps g c =
+    map_ok c.change_at.result
     (λ st told gaz stands.
     let v = g.P.Pages.view in
     let told_between : IsTrue (v c.key_of.new.self.pages).is_told = subst IsTrue (sym c.key_of.ensures.asked.counts.told) told in
     let target = rw c.in-Ok-Some.field-0-is at c.in-Ok-Some.ensures in
     let keyed = target_keyed c.args.kind c.args.line.now c.in-Ok-Some.target target.1 in
-    let b = behind gaz (v c.args.self.now.pages) (v c.key_of.new.self.pages) (v c.find.new.self.pages) c.args.self.now.root c.key_of.new.self.root c.find.new.self.root stands c.args.kind c.args.line.now c.in-Ok.key
-    c.requires.one_line target.0 keyed (subst IsTrue (sym c.find.ensures.asked.counts.told) told_between) (c.in-Ok.ensures.asked.same told) c.key_of.ensures.root (c.in-Ok-Some-find.ensures.asked.same told_between) c.find.ensures.root
+    let b = behind gaz (v c.args.self.now.pages) (v c.key_of.new.self.pages) (v c.place.new.self.pages) c.args.self.now.root c.key_of.new.self.root c.place.new.self.root stands c.args.kind c.args.line.now c.in-Ok.key
+    c.requires.one_line target.0 keyed (subst IsTrue (sym c.place.ensures.asked.counts.told) told_between) (c.in-Ok.ensures.asked.same told) c.key_of.ensures.root (c.in-Ok-Some-place.ensures.asked.same told_between) c.place.ensures.root
     (c.in-Ok.ensures.key told gaz stands c.args.kind c.args.line.now target.1) in
-    let at_between = rw c.in-Ok-Some-find.field-0-is at c.in-Ok-Some-find.ensures.found told_between b.stands_between.pairs b.stands_between.tree b.recorded in
-    let at = at_same (v c.key_of.new.self.pages) (v c.find.new.self.pages) c.in-Ok.key b.stands_between.pairs c.in-Ok-Some-find.place (take c.in-Ok-Some-find.size c.find.new.buf) b.same_now at_between in
+    let at = rw c.in-Ok-Some-place.field-0-is at c.in-Ok-Some-place.ensures.found told_between b.stands_between.pairs b.stands_between.tree in
     st b.told gaz b.stands_now b.over at c.requires.one_line)
-    c.change.ensures.stands
+    c.change_at.ensures.stands
 
-pub returns-in-Ok-Some-find-clause-fault : goal.returns-in-Ok-Some-find-clause-fault
-returns-in-Ok-Some-find-clause-fault g c =
-    map_err c.change.result
+pub returns-in-Ok-Some-place-clause-fault : goal.returns-in-Ok-Some-place-clause-fault
+returns-in-Ok-Some-place-clause-fault g c =
+    map_err c.change_at.result
     (λ fault right told gaz stands.
     let v = g.P.Pages.view in
     let told_between : IsTrue (v c.key_of.new.self.pages).is_told = subst IsTrue (sym c.key_of.ensures.asked.counts.told) told in
     let target = rw c.in-Ok-Some.field-0-is at c.in-Ok-Some.ensures in
     let keyed = target_keyed c.args.kind c.args.line.now c.in-Ok-Some.target target.1 in
-    let b = behind gaz (v c.args.self.now.pages) (v c.key_of.new.self.pages) (v c.find.new.self.pages) c.args.self.now.root c.key_of.new.self.root c.find.new.self.root stands c.args.kind c.args.line.now c.in-Ok.key
-    c.requires.one_line target.0 keyed (subst IsTrue (sym c.find.ensures.asked.counts.told) told_between) (c.in-Ok.ensures.asked.same told) c.key_of.ensures.root (c.in-Ok-Some-find.ensures.asked.same told_between) c.find.ensures.root
+    let b = behind gaz (v c.args.self.now.pages) (v c.key_of.new.self.pages) (v c.place.new.self.pages) c.args.self.now.root c.key_of.new.self.root c.place.new.self.root stands c.args.kind c.args.line.now c.in-Ok.key
+    c.requires.one_line target.0 keyed (subst IsTrue (sym c.place.ensures.asked.counts.told) told_between) (c.in-Ok.ensures.asked.same told) c.key_of.ensures.root (c.in-Ok-Some-place.ensures.asked.same told_between) c.place.ensures.root
     (c.in-Ok.ensures.key told gaz stands c.args.kind c.args.line.now target.1) in
-    let at_between = rw c.in-Ok-Some-find.field-0-is at c.in-Ok-Some-find.ensures.found told_between b.stands_between.pairs b.stands_between.tree b.recorded in
-    let at = at_same (v c.key_of.new.self.pages) (v c.find.new.self.pages) c.in-Ok.key b.stands_between.pairs c.in-Ok-Some-find.place (take c.in-Ok-Some-find.size c.find.new.buf) b.same_now at_between in
-    change_rightly gaz (v c.find.new.self.pages) c.find.new.self.root b.stands_now c.args.kind c.args.line.now c.in-Ok.key c.requires.one_line target.0 keyed b.over c.in-Ok-Some-find.place (take c.in-Ok-Some-find.size c.find.new.buf) at b.told fault right)
-    c.change.ensures.fault
+    let at = rw c.in-Ok-Some-place.field-0-is at c.in-Ok-Some-place.ensures.found told_between b.stands_between.pairs b.stands_between.tree in
+    right b.told gaz b.stands_now b.over at c.requires.one_line)
+    c.change_at.ensures.fault
 
-pub returns-in-Ok-None-find-clause-steps : goal.returns-in-Ok-None-find-clause-steps
-returns-in-Ok-None-find-clause-steps g c told gaz stands =
+pub returns-in-Ok-None-place-clause-steps : goal.returns-in-Ok-None-place-clause-steps
+returns-in-Ok-None-place-clause-steps g c told gaz stands =
     let v = g.P.Pages.view in
     let told_between : IsTrue (v c.key_of.new.self.pages).is_told = subst IsTrue (sym c.key_of.ensures.asked.counts.told) told in
     let target = rw c.in-Ok-Some.field-0-is at c.in-Ok-Some.ensures in
     let keyed = target_keyed c.args.kind c.args.line.now c.in-Ok-Some.target target.1 in
-    let b = behind gaz (v c.args.self.now.pages) (v c.key_of.new.self.pages) (v c.find.new.self.pages) c.args.self.now.root c.key_of.new.self.root c.find.new.self.root stands c.args.kind c.args.line.now c.in-Ok.key
-    c.requires.one_line target.0 keyed (subst IsTrue (sym c.find.ensures.asked.counts.told) told_between) (c.in-Ok.ensures.asked.same told) c.key_of.ensures.root (c.in-Ok-None-find.ensures.asked.same told_between) c.find.ensures.root
+    let b = behind gaz (v c.args.self.now.pages) (v c.key_of.new.self.pages) (v c.place.new.self.pages) c.args.self.now.root c.key_of.new.self.root c.place.new.self.root stands c.args.kind c.args.line.now c.in-Ok.key
+    c.requires.one_line target.0 keyed (subst IsTrue (sym c.place.ensures.asked.counts.told) told_between) (c.in-Ok.ensures.asked.same told) c.key_of.ensures.root (c.in-Ok-None-place.ensures.asked.same told_between) c.place.ensures.root
     (c.in-Ok.ensures.key told gaz stands c.args.kind c.args.line.now target.1) in
-    let none = rw c.in-Ok-None-find.field-0-is at c.in-Ok-None-find.ensures.found told_between b.stands_between.pairs b.stands_between.tree b.recorded in
-    none_over gaz (v c.find.new.self.pages) c.find.new.self.root b.stands_now c.args.kind c.args.line.now c.in-Ok.key c.requires.one_line target.0 keyed b.over (sym c.is_delete.ensures ∙ c.if-is_delete.true) none
+    let none = rw c.in-Ok-None-place.field-0-is at c.in-Ok-None-place.ensures.found told_between b.stands_between.pairs b.stands_between.tree in
+    none_over gaz (v c.place.new.self.pages) c.place.new.self.root b.stands_now c.args.kind c.args.line.now c.in-Ok.key c.requires.one_line target.0 keyed b.over (sym c.is_delete.ensures ∙ c.if-is_delete.true) none
 
 pub returns-in-Ok-None-2-clause-steps : goal.returns-in-Ok-None-2-clause-steps
 returns-in-Ok-None-2-clause-steps g c =
@@ -82,15 +80,15 @@ returns-in-Ok-None-2-clause-steps g c =
     let told_between : IsTrue (v c.key_of.new.self.pages).is_told = subst IsTrue (sym c.key_of.ensures.asked.counts.told) told in
     let target = rw c.in-Ok-Some.field-0-is at c.in-Ok-Some.ensures in
     let keyed = target_keyed c.args.kind c.args.line.now c.in-Ok-Some.target target.1 in
-    let b = behind gaz (v c.args.self.now.pages) (v c.key_of.new.self.pages) (v c.find.new.self.pages) c.args.self.now.root c.key_of.new.self.root c.find.new.self.root stands c.args.kind c.args.line.now c.in-Ok.key
-    c.requires.one_line target.0 keyed (subst IsTrue (sym c.find.ensures.asked.counts.told) told_between) (c.in-Ok.ensures.asked.same told) c.key_of.ensures.root (c.in-Ok-None-find.ensures.asked.same told_between) c.find.ensures.root
+    let b = behind gaz (v c.args.self.now.pages) (v c.key_of.new.self.pages) (v c.place.new.self.pages) c.args.self.now.root c.key_of.new.self.root c.place.new.self.root stands c.args.kind c.args.line.now c.in-Ok.key
+    c.requires.one_line target.0 keyed (subst IsTrue (sym c.place.ensures.asked.counts.told) told_between) (c.in-Ok.ensures.asked.same told) c.key_of.ensures.root (c.in-Ok-None-place.ensures.asked.same told_between) c.place.ensures.root
     (c.in-Ok.ensures.key told gaz stands c.args.kind c.args.line.now target.1) in
-    let none = rw c.in-Ok-None-find.field-0-is at c.in-Ok-None-find.ensures.found told_between b.stands_between.pairs b.stands_between.tree b.recorded in
+    let none = rw c.in-Ok-None-place.field-0-is at c.in-Ok-None-place.ensures.found told_between b.stands_between.pairs b.stands_between.tree in
     let table = c.table_of.ensures in
-    let root = c.find.new.self.root in
-    come_over gaz (v c.find.new.self.pages) c.find.new.self.root b.stands_now c.args.kind c.args.line.now c.in-Ok.key c.requires.one_line target.0 keyed b.over (v c.come.new.self.pages) c.come.new.self.root (sym c.is_delete.ensures ∙ c.if-is_delete.false) none
-    (subst (λ t. HasCome (v c.find.new.self.pages) (v c.come.new.self.pages) c.come.new.self.root b.stands_now.pairs (places_in b.stands_now.pairs) c.in-Ok.key (more_keys t c.args.line.now) c.args.line.now) table
-    (come b.told b.stands_now.pairs (places_in b.stands_now.pairs) (laid_over gaz (v c.find.new.self.pages) c.find.new.self.root b.stands_now c.args.kind c.args.line.now c.in-Ok.key c.requires.one_line target.0 keyed b.over)))
+    let root = c.place.new.self.root in
+    come_over gaz (v c.place.new.self.pages) c.place.new.self.root b.stands_now c.args.kind c.args.line.now c.in-Ok.key c.requires.one_line target.0 keyed b.over (v c.come.new.self.pages) c.come.new.self.root (sym c.is_delete.ensures ∙ c.if-is_delete.false) none
+    (subst (λ t. HasCome (v c.place.new.self.pages) (v c.come.new.self.pages) c.come.new.self.root b.stands_now.pairs (places_in b.stands_now.pairs) c.in-Ok.key (more_keys t c.args.line.now) c.args.line.now) table
+    (come b.told b.stands_now.pairs (places_in b.stands_now.pairs) (laid_over gaz (v c.place.new.self.pages) c.place.new.self.root b.stands_now c.args.kind c.args.line.now c.in-Ok.key c.requires.one_line target.0 keyed b.over)))
     (subst (λ t. counted root.counts t < limit_of t) table room)
     (subst (λ t. c.come.new.self.root.counts ≡ recounted root.counts t (counted root.counts t + 1)) table count)
     (ap (λ (r : Root). r.day) c.come.ensures.root))
@@ -104,20 +102,19 @@ returns-in-Ok-None-2-clause-fault g c =
     let told_between : IsTrue (v c.key_of.new.self.pages).is_told = subst IsTrue (sym c.key_of.ensures.asked.counts.told) told in
     let target = rw c.in-Ok-Some.field-0-is at c.in-Ok-Some.ensures in
     let keyed = target_keyed c.args.kind c.args.line.now c.in-Ok-Some.target target.1 in
-    let b = behind gaz (v c.args.self.now.pages) (v c.key_of.new.self.pages) (v c.find.new.self.pages) c.args.self.now.root c.key_of.new.self.root c.find.new.self.root stands c.args.kind c.args.line.now c.in-Ok.key
-    c.requires.one_line target.0 keyed (subst IsTrue (sym c.find.ensures.asked.counts.told) told_between) (c.in-Ok.ensures.asked.same told) c.key_of.ensures.root (c.in-Ok-None-find.ensures.asked.same told_between) c.find.ensures.root
+    let b = behind gaz (v c.args.self.now.pages) (v c.key_of.new.self.pages) (v c.place.new.self.pages) c.args.self.now.root c.key_of.new.self.root c.place.new.self.root stands c.args.kind c.args.line.now c.in-Ok.key
+    c.requires.one_line target.0 keyed (subst IsTrue (sym c.place.ensures.asked.counts.told) told_between) (c.in-Ok.ensures.asked.same told) c.key_of.ensures.root (c.in-Ok-None-place.ensures.asked.same told_between) c.place.ensures.root
     (c.in-Ok.ensures.key told gaz stands c.args.kind c.args.line.now target.1) in
-    let none = rw c.in-Ok-None-find.field-0-is at c.in-Ok-None-find.ensures.found told_between b.stands_between.pairs b.stands_between.tree b.recorded in
-    come_rightly gaz (v c.find.new.self.pages) c.find.new.self.root b.stands_now c.args.kind c.args.line.now c.in-Ok.key c.requires.one_line target.0 keyed b.over (sym c.is_delete.ensures ∙ c.if-is_delete.false) none b.told fault
-    (subst (λ t. ComesRightly t c.find.new.self.root (v c.find.new.self.pages) fault) c.table_of.ensures right))
+    let none = rw c.in-Ok-None-place.field-0-is at c.in-Ok-None-place.ensures.found told_between b.stands_between.pairs b.stands_between.tree in
+    come_rightly gaz (v c.place.new.self.pages) c.place.new.self.root b.stands_now c.args.kind c.args.line.now c.in-Ok.key c.requires.one_line target.0 keyed b.over (sym c.is_delete.ensures ∙ c.if-is_delete.false) none b.told fault
+    (subst (λ t. ComesRightly t c.place.new.self.root (v c.place.new.self.pages) fault) c.table_of.ensures right))
     c.come.ensures.fault
 
-pub returns-in-Err-find-clause-fault : goal.returns-in-Err-find-clause-fault
-returns-in-Err-find-clause-fault g c told gaz stands =
+pub returns-in-Err-place-clause-fault : goal.returns-in-Err-place-clause-fault
+returns-in-Err-place-clause-fault g c told gaz stands =
     let v = g.P.Pages.view in
     let told_between : IsTrue (v c.key_of.new.self.pages).is_told = subst IsTrue (sym c.key_of.ensures.asked.counts.told) told in
     let target = rw c.in-Ok-Some.field-0-is at c.in-Ok-Some.ensures in
     let keyed = target_keyed c.args.kind c.args.line.now c.in-Ok-Some.target target.1 in
     let between = stands_same [] gaz (v c.args.self.now.pages) (v c.key_of.new.self.pages) c.args.self.now.root c.key_of.new.self.root (c.in-Ok.ensures.asked.same told) c.key_of.ensures.root stands in
-    let recorded = record_here gaz (v c.key_of.new.self.pages) c.key_of.new.self.root between c.args.kind c.args.line.now c.in-Ok.key c.requires.one_line target.0 keyed (c.in-Ok.ensures.key told gaz stands c.args.kind c.args.line.now target.1) in
-    ask_rightly gaz c.args.kind c.args.line.now c.in-Err-find.fault c.from-in-Err-find.result (c.in-Err-find.ensures.damaged told_between between.pairs between.tree recorded) c.from-in-Err-find.ensures
+    ask_rightly gaz c.args.kind c.args.line.now c.in-Err-place.fault c.from-in-Err-place.result (c.in-Err-place.ensures.damaged told_between between.pairs between.tree) c.from-in-Err-place.ensures
