@@ -9,7 +9,7 @@ use Rattle.gaz_rows.specs.Change.{HasCome}
 use Rattle.gaz_rows.specs.Stepping.{ComesRightly}
 use Rattle.gaz_rows.proofs.Working.{map_ok, all_ok}
 use Rattle.gaz_rows.proofs.ReindexedTaken.{is_malformed, is_comment}
-use Rattle.gaz_rows.proofs.SteppedOver.{short_line, ask_rightly, target_keyed, behind, at_same, come_over, come_rightly, change_rightly, none_over, laid_over, map_err, stands_same, record_here}
+use Rattle.gaz_rows.proofs.SteppedOver.{short_line, ask_rightly, target_keyed, behind, at_same, come_over, come_rightly, change_rightly, none_over, laid_over, map_err, stands_same, record_here, come_full, change_full, ask_full, already_over, lacking_over, still, still_behind}
 use Rattle.gaz_rows.proofs.store.RowStore.step.Goals as goal
 
 pub returns-in-Ok-None-clause-steps : goal.returns-in-Ok-None-clause-steps
@@ -121,3 +121,68 @@ returns-in-Err-find-clause-fault g c told gaz stands =
     let between = stands_same [] gaz (v c.args.self.now.pages) (v c.key_of.new.self.pages) c.args.self.now.root c.key_of.new.self.root (c.in-Ok.ensures.asked.same told) c.key_of.ensures.root stands in
     let recorded = record_here gaz (v c.key_of.new.self.pages) c.key_of.new.self.root between c.args.kind c.args.line.now c.in-Ok.key c.requires.one_line target.0 keyed (c.in-Ok.ensures.key told gaz stands c.args.kind c.args.line.now target.1) in
     ask_rightly gaz c.args.kind c.args.line.now c.in-Err-find.fault c.from-in-Err-find.result (c.in-Err-find.ensures.damaged told_between between.pairs between.tree recorded) c.from-in-Err-find.ensures
+
+pub returns-in-Err-key_of-clause-full : goal.returns-in-Err-key_of-clause-full
+returns-in-Err-key_of-clause-full g c = ask_full c.args.kind c.args.self.now.root c.in-Err-key_of.fault c.from.result c.from.ensures
+
+pub returns-in-Err-find-clause-full : goal.returns-in-Err-find-clause-full
+returns-in-Err-find-clause-full g c = ask_full c.args.kind c.args.self.now.root c.in-Err-find.fault c.from-in-Err-find.result c.from-in-Err-find.ensures
+
+pub returns-in-Ok-Some-find-clause-full : goal.returns-in-Ok-Some-find-clause-full
+returns-in-Ok-Some-find-clause-full g c =
+    map_err c.change.result
+    (λ fault right. change_full c.args.kind c.args.self.now.root c.find.new.self.root (g.P.Pages.view c.find.new.self.pages) c.in-Ok-Some-find.place (take c.in-Ok-Some-find.size c.find.new.buf) fault right)
+    c.change.ensures.fault
+
+pub returns-in-Ok-None-2-clause-full : goal.returns-in-Ok-None-2-clause-full
+returns-in-Ok-None-2-clause-full g c =
+    map_err c.come.result
+    (λ fault right. come_full c.args.kind c.args.self.now.root c.find.new.self.root (g.P.Pages.view c.find.new.self.pages) fault (c.find.ensures.root ∙ c.key_of.ensures.root)
+    (sym c.is_delete.ensures ∙ c.if-is_delete.false)
+    (subst (λ t. ComesRightly t c.find.new.self.root (g.P.Pages.view c.find.new.self.pages) fault) c.table_of.ensures right))
+    c.come.ensures.fault
+
+pub returns-in-Ok-None-clause-idle : goal.returns-in-Ok-None-clause-idle
+returns-in-Ok-None-clause-idle g c told gaz stands has = still (g.P.Pages.view c.args.self.now.pages) c.args.self.now.root
+
+pub returns-in-Ok-None-find-clause-idle : goal.returns-in-Ok-None-find-clause-idle
+returns-in-Ok-None-find-clause-idle g c told gaz stands has =
+    let v = g.P.Pages.view in
+    let told_between : IsTrue (v c.key_of.new.self.pages).is_told = subst IsTrue (sym c.key_of.ensures.asked.counts.told) told in
+    still_behind (v c.args.self.now.pages) (v c.key_of.new.self.pages) (v c.find.new.self.pages) c.args.self.now.root c.key_of.new.self.root c.find.new.self.root (c.in-Ok.ensures.asked.same told) c.key_of.ensures.asked.unchanged c.key_of.ensures.root
+    (still_behind (v c.key_of.new.self.pages) (v c.find.new.self.pages) (v c.find.new.self.pages) c.key_of.new.self.root c.find.new.self.root c.find.new.self.root (c.in-Ok-None-find.ensures.asked.same told_between) c.find.ensures.asked.unchanged c.find.ensures.root
+    (still (v c.find.new.self.pages) c.find.new.self.root))
+
+pub returns-in-Ok-Some-find-clause-idle : goal.returns-in-Ok-Some-find-clause-idle
+returns-in-Ok-Some-find-clause-idle g c =
+    map_ok c.change.result
+    (λ idle told gaz stands has.
+    let v = g.P.Pages.view in
+    let told_between : IsTrue (v c.key_of.new.self.pages).is_told = subst IsTrue (sym c.key_of.ensures.asked.counts.told) told in
+    let target = rw c.in-Ok-Some.field-0-is at c.in-Ok-Some.ensures in
+    let keyed = target_keyed c.args.kind c.args.line.now c.in-Ok-Some.target target.1 in
+    let b = behind gaz (v c.args.self.now.pages) (v c.key_of.new.self.pages) (v c.find.new.self.pages) c.args.self.now.root c.key_of.new.self.root c.find.new.self.root stands c.args.kind c.args.line.now c.in-Ok.key
+    c.requires.one_line target.0 keyed (subst IsTrue (sym c.find.ensures.asked.counts.told) told_between) (c.in-Ok.ensures.asked.same told) c.key_of.ensures.root (c.in-Ok-Some-find.ensures.asked.same told_between) c.find.ensures.root
+    (c.in-Ok.ensures.key told gaz stands c.args.kind c.args.line.now target.1) in
+    let at_between = rw c.in-Ok-Some-find.field-0-is at c.in-Ok-Some-find.ensures.found told_between b.stands_between.pairs b.stands_between.tree b.recorded in
+    let at = at_same (v c.key_of.new.self.pages) (v c.find.new.self.pages) c.in-Ok.key b.stands_between.pairs c.in-Ok-Some-find.place (take c.in-Ok-Some-find.size c.find.new.buf) b.same_now at_between in
+    let already = already_over gaz (v c.find.new.self.pages) c.find.new.self.root b.stands_now c.args.kind c.args.line.now c.in-Ok.key c.requires.one_line target.0 keyed b.over c.in-Ok-Some-find.place (take c.in-Ok-Some-find.size c.find.new.buf) at has in
+    still_behind (v c.args.self.now.pages) (v c.key_of.new.self.pages) (v c.change.new.self.pages) c.args.self.now.root c.key_of.new.self.root c.change.new.self.root (c.in-Ok.ensures.asked.same told) c.key_of.ensures.asked.unchanged c.key_of.ensures.root
+    (still_behind (v c.key_of.new.self.pages) (v c.find.new.self.pages) (v c.change.new.self.pages) c.key_of.new.self.root c.find.new.self.root c.change.new.self.root (c.in-Ok-Some-find.ensures.asked.same told_between) c.find.ensures.asked.unchanged c.find.ensures.root
+    (idle b.told already)))
+    c.change.ensures.idle
+
+pub returns-in-Ok-None-2-clause-idle : goal.returns-in-Ok-None-2-clause-idle
+returns-in-Ok-None-2-clause-idle g c =
+    map_ok c.come.result
+    (λ count told gaz stands has.
+    let v = g.P.Pages.view in
+    let told_between : IsTrue (v c.key_of.new.self.pages).is_told = subst IsTrue (sym c.key_of.ensures.asked.counts.told) told in
+    let target = rw c.in-Ok-Some.field-0-is at c.in-Ok-Some.ensures in
+    let keyed = target_keyed c.args.kind c.args.line.now c.in-Ok-Some.target target.1 in
+    let b = behind gaz (v c.args.self.now.pages) (v c.key_of.new.self.pages) (v c.find.new.self.pages) c.args.self.now.root c.key_of.new.self.root c.find.new.self.root stands c.args.kind c.args.line.now c.in-Ok.key
+    c.requires.one_line target.0 keyed (subst IsTrue (sym c.find.ensures.asked.counts.told) told_between) (c.in-Ok.ensures.asked.same told) c.key_of.ensures.root (c.in-Ok-None-find.ensures.asked.same told_between) c.find.ensures.root
+    (c.in-Ok.ensures.key told gaz stands c.args.kind c.args.line.now target.1) in
+    let none = rw c.in-Ok-None-find.field-0-is at c.in-Ok-None-find.ensures.found told_between b.stands_between.pairs b.stands_between.tree b.recorded in
+    absurd (lacking_over gaz (v c.find.new.self.pages) c.find.new.self.root b.stands_now c.args.kind c.args.line.now c.in-Ok.key c.requires.one_line target.0 keyed b.over (sym c.is_delete.ensures ∙ c.if-is_delete.false) none has))
+    c.come.ensures.count
