@@ -33,13 +33,13 @@ use Rattle.gaz_rows.specs.Store.{IsSound, IsStepFaultOf}
 use Rattle.gaz_rows.specs.declared.target.Target.{Target}
 use Rattle.gaz_rows.specs.declared.target.Target.TheVariants.{Key, Code}
 use Rattle.gaz_rows.specs.Target.{IsTargetOf}
-use Rattle.gaz_rows.specs.Steps.{MeetsLine, IsSlotFor, slot_with, IsSlotOf, counted, recounted}
-use Rattle.gaz_rows.specs.Stepping.{StandsAt, IsKeyOver, ComesRightly, ChangesRightly, HasSteppedTo}
+use Rattle.gaz_rows.specs.Steps.{MeetsLine, IsSlotFor, slot_with, IsSlotOf, counted, recounted, line_put}
+use Rattle.gaz_rows.specs.Stepping.{StandsAt, IsKeyOver, ComesRightly, ChangesRightly, HasSteppedTo, IsFullBy, IsOfPages, StandsStill, HasAlready}
 use Rattle.gaz_rows.specs.Change.{HasCome, HasGone, HasReplaced}
 use Rattle.gaz_keys.specs.Lines.{more_keys}
 use Rattle.gaz_rows.proofs.PairsStands.{meets_line}
 use Rattle.gaz_rows.proofs.ReindexedSlots.{slot_kept, slot_new, slots_agree}
-use Rattle.gaz_rows.proofs.SteppedStores.{laid_here, left_here, full_here, place_there, was_keyed, was_counted, come_stands, go_stands, replace_stands, same_stands, none_stands}
+use Rattle.gaz_rows.proofs.SteppedStores.{laid_here, left_here, full_here, place_there, was_keyed, was_counted, come_stands, go_stands, replace_stands, same_stands, none_stands, some_found, none_found, come_taken, change_taken}
 
 -- a test that passed
 passed : (why : Reason) (b : Bool) (rest : List (Reason × Bool)) → first_failing ((why, b) ∷ rest) ≡ None → b ≡ true
@@ -57,6 +57,27 @@ numbers_of kind line has = by (key_in kind line) refl has
     by : (found : Option (List ℕ)) → key_in kind line ≡ found → IsSome found → (numbers : List ℕ) × (key_in kind line ≡ Some numbers)
     by None is has = absurd (cc)
     by (Some numbers) is has = (numbers, is)
+
+-- A line that isn't one that only takes out is put.
+pub put_is_some : (kind : Kind) (line : List ℕ) → is_delete kind ≡ false → line_put kind line ≡ None → ⊥
+put_is_some kind line puts is = differ (sym (ap (λ (b : Bool). if b then None else Some line) puts) ∙ is)
+  where
+    differ : Some line ≡ None → ⊥
+    differ same = cc
+
+-- One that only takes out isn't.
+pub put_is_none : (kind : Kind) (line was : List ℕ) → is_delete kind ≡ true → line_put kind line ≡ Some was → ⊥
+put_is_none kind line was deletes is = differ (sym (ap (λ (b : Bool). if b then None else Some line) deletes) ∙ is)
+  where
+    differ : None ≡ Some was → ⊥
+    differ same = cc
+
+-- What is put is the line.
+pub put_is_line : (kind : Kind) (line was : List ℕ) → is_delete kind ≡ false → line_put kind line ≡ Some was → was ≡ line
+put_is_line kind line was puts is = one (sym (ap (λ (b : Bool). if b then None else Some line) puts) ∙ is)
+  where
+    one : Some line ≡ Some was → was ≡ line
+    one same = cc
 
 -- ---- the key of a code
 
@@ -127,7 +148,7 @@ ask_rightly gaz kind line cause result sound is = subst (IsStepFaultOf (after_li
     by : (cause : AskFault) → IsSound cause → IsStepFaultOf (after_line gaz kind line) (step_fault_by cause)
     by ask.Failed sound = tt
     by (ask.Damaged page) sound = sound
-    by ask.Memory sound = tt
+    by ask.Memory sound = absurd sound
 
 module _ (gaz : Gazetteer) (v : PagesView) (root : Root) (stands : StandsForBut [] gaz v.page (ends_of v root)) (kind : Kind) (line key : List ℕ) (one : IsTrue (is_one_line line)) (accepted : reason_against kind line ≡ None)
     (has : IsSome (key_in kind line)) (over : IsKeyOver gaz stands.slots kind line key) where
@@ -151,7 +172,7 @@ module _ (gaz : Gazetteer) (v : PagesView) (root : Root) (stands : StandsForBut 
   come_rightly puts none told (Damaged page) right =
       right stands.pairs (places_in stands.pairs) told (laid_here gaz v root stands over.now kind line (numbers_of kind line has).0 key meets over.is) (left_here gaz v root stands over.now kind line (numbers_of kind line has).0 key meets over.is)
   come_rightly puts none told Failed right = tt
-  come_rightly puts none told Memory right = tt
+  come_rightly puts none told Memory right = come_taken gaz v root stands over.now kind line (numbers_of kind line has).0 key meets over.is puts none right
 
   -- So is that of one that goes or is replaced.
   pub change_rightly : (place : ℕ) (was : List ℕ) → StandsAt v key stands.pairs place was → IsTrue v.is_told → (fault : StepFault) → ChangesRightly (table_of kind) root v place was fault → IsStepFaultOf (after_line gaz kind line) fault
@@ -162,7 +183,7 @@ module _ (gaz : Gazetteer) (v : PagesView) (root : Root) (stands : StandsForBut 
       (place_there gaz v root stands over.now kind line (numbers_of kind line has).0 key meets over.is place at.at) (was_keyed gaz v root stands over.now kind line (numbers_of kind line has).0 key meets over.is place was at)
       (was_counted gaz v root stands over.now kind line (numbers_of kind line has).0 key meets over.is place was at)
   change_rightly place was at told Failed right = tt
-  change_rightly place was at told Memory right = tt
+  change_rightly place was at told Memory right = change_taken gaz v root stands over.now kind line (numbers_of kind line has).0 key meets over.is place was at
 
   -- What a line has changed stands for the gazetteer after it.
   pub come_over : (new : PagesView) (last : Root) → is_delete kind ≡ false → lookup (key_of key) stands.pairs ≡ None → HasCome v new last stands.pairs (places_in stands.pairs) key (more_keys (table_of kind) line) line
@@ -189,6 +210,16 @@ module _ (gaz : Gazetteer) (v : PagesView) (root : Root) (stands : StandsForBut 
 
   pub there_over : (place : ℕ) → lookup (key_of key) stands.pairs ≡ Some place → Contains (places_in stands.pairs) place
   there_over = place_there gaz v root stands over.now kind line (numbers_of kind line has).0 key meets over.is
+
+  -- What stands there is what the line puts, where its table has that already.
+  pub already_over : (place : ℕ) (was : List ℕ) → StandsAt v key stands.pairs place was → HasAlready gaz kind line → line_put kind line ≡ Some was
+  already_over place was at has_already =
+      sym (has_already (numbers_of kind line has).0 (numbers_of kind line has).1) ∙ some_found gaz v root stands over.now kind line (numbers_of kind line has).0 key meets over.is place was at
+
+  -- Where none stands there, the table lacks what a line puts.
+  pub lacking_over : is_delete kind ≡ false → lookup (key_of key) stands.pairs ≡ None → HasAlready gaz kind line → ⊥
+  lacking_over puts none has_already =
+      put_is_some kind line puts (sym (has_already (numbers_of kind line has).0 (numbers_of kind line has).1) ∙ none_found gaz v root stands over.now kind line (numbers_of kind line has).0 key meets over.is none)
 
 -- What a line speaks of has a key in its table.
 pub target_keyed : (kind : Kind) (line : List ℕ) (target : Target) → IsTargetOf kind line (Some target) → IsSome (key_in kind line)
@@ -229,3 +260,44 @@ map_value (Err fault) f p = tt
 pub map_err : {T F : Type 0} {P Q : F → Type 0} (result : Result T F) → ((fault : F) → P fault → Q fault) → IfErr result P → IfErr result Q
 map_err (Ok value) f p = tt
 map_err (Err fault) f p = f fault p
+
+-- ---- where a table is full
+
+-- The fault of a line that comes tells that its table is full where the root counts so many.
+pub come_full : (kind : Kind) (root now : Root) (v : PagesView) (fault : StepFault) → now ≡ root → is_delete kind ≡ false → ComesRightly (table_of kind) now v fault → IsFullBy kind root fault
+come_full kind root now v (Full other) same puts right =
+    (puts, right.0, subst (λ (r : Root). limit_of (table_of kind) ≤ counted r.counts (table_of kind)) same right.1)
+come_full kind root now v (Malformed reason) same puts right = tt
+come_full kind root now v (Damaged page) same puts right = tt
+come_full kind root now v Failed same puts right = tt
+come_full kind root now v Memory same puts right = tt
+
+-- That of one that goes or is replaced never tells it.
+pub pages_full : (kind : Kind) (root : Root) (fault : StepFault) → IsOfPages fault → IsFullBy kind root fault
+pages_full kind root (Full other) why = absurd why
+pages_full kind root (Malformed reason) why = tt
+pages_full kind root (Damaged page) why = tt
+pages_full kind root Failed why = tt
+pages_full kind root Memory why = tt
+
+-- Nor does that of a question.
+pub ask_full : (kind : Kind) (root : Root) (cause : AskFault) (result : StepFault) → result ≡ step_fault_by cause → IsFullBy kind root result
+ask_full kind root cause result is = subst (IsFullBy kind root) (sym is) (by cause)
+  where
+    by : (cause : AskFault) → IsFullBy kind root (step_fault_by cause)
+    by ask.Failed = tt
+    by (ask.Damaged page) = tt
+    by ask.Memory = tt
+
+-- ---- what a line leaves that changes nothing
+
+pub still : (v : PagesView) (root : Root) → StandsStill v root v root
+still v root = record { same = record { pages = refl; free = refl; fresh = refl }; unchanged = refl; root_same = refl }
+
+-- Behind a call that leaves all as it was.
+pub still_behind : (old mid new : PagesView) (root between now : Root) → SamePages old mid → mid.changed ≡ old.changed → between ≡ root → StandsStill mid between new now → StandsStill old root new now
+still_behind old mid new root between now same unchanged root_same rest = record {
+  same = record { pages = rest.same.pages ∙ same.pages; free = rest.same.free ∙ same.free; fresh = rest.same.fresh ∙ same.fresh };
+  unchanged = rest.unchanged ∙ unchanged;
+  root_same = rest.root_same ∙ root_same;
+}

@@ -1,6 +1,6 @@
 -- Pages that stand for a gazetteer, once a line has come, gone or taken the place of another, stand for the gazetteer after it.
-use Rattle.std.proofs.Common.{◌≡◌, ◌<◌, ◌≤◌, ◌+◌, ◌-◌, ℕ, List, [], ◌∷◌, refl, sym, ◌∙◌, ap, subst, arith, inl, inr, true, false, Option, Some, None, Ok, Err}
-use Rattle.std.specs.Prelude.{Contains, option_and_then, if◌then◌else◌}
+use Rattle.std.proofs.Common.{◌≡◌, ◌<◌, ◌≤◌, ◌+◌, ◌-◌, ℕ, List, [], ◌∷◌, refl, sym, ◌∙◌, ap, subst, arith, inl, inr, true, false, Bool, Option, Some, None, Ok, Err}
+use Rattle.std.specs.Prelude.{Contains, option_and_then, if◌then◌else◌, IsOk}
 use Rattle.std.proofs.lemmas.Bool.{cases_eq}
 use Rattle.std.proofs.lemmas.List.Elements.{All-contains}
 use Rattle.gaz_num.specs.declared.words.Kind.{Kind}
@@ -75,10 +75,10 @@ module _ (gaz : Gazetteer) (v : PagesView) (root : Root) (stands : StandsForBut 
   old_found : old_by gaz kind numbers ≡ option_and_then bytes (lookup (key_of key) stands.pairs)
   old_found = old_is stands.slots now gaz kind line numbers stands.pairs bytes meets ∙ ap (λ k. option_and_then bytes (lookup (key_of k) stands.pairs)) is
 
-  none_found : lookup (key_of key) stands.pairs ≡ None → old_by gaz kind numbers ≡ None
+  pub none_found : lookup (key_of key) stands.pairs ≡ None → old_by gaz kind numbers ≡ None
   none_found none = old_found ∙ ap (option_and_then bytes) none
 
-  some_found : (place : ℕ) (was : List ℕ) → StandsAt v key stands.pairs place was → old_by gaz kind numbers ≡ Some was
+  pub some_found : (place : ℕ) (was : List ℕ) → StandsAt v key stands.pairs place was → old_by gaz kind numbers ≡ Some was
   some_found place was at = old_found ∙ ap (option_and_then bytes) at.at ∙ at.record_is
 
   puts_line : is_delete kind ≡ false → line_put kind line ≡ Some line
@@ -189,6 +189,28 @@ module _ (gaz : Gazetteer) (v : PagesView) (root : Root) (stands : StandsForBut 
 
   pub was_counted : (place : ℕ) (was : List ℕ) → StandsAt v key stands.pairs place was → 1 ≤ counted root.counts table
   was_counted place was at = let there = (was_line place was at).1 in omega (arith, there, counted_is gaz table, count_is)
+
+  -- A line that comes where there is room is taken.
+  pub come_taken : is_delete kind ≡ false → lookup (key_of key) stands.pairs ≡ None → counted root.counts table < limit_of table → IsOk (after_line gaz kind line)
+  come_taken puts none room =
+      let new_one = ap one_if (puts_line puts) in
+      let old_one = ap one_if (none_found none) in
+      subst IsOk (sym (taken_with (counted root.counts table + 1) (omega (arith, new_one, old_one)) (omega (arith, room)))) refl
+
+  -- So is one whose like stands there.
+  pub change_taken : (place : ℕ) (was : List ℕ) → StandsAt v key stands.pairs place was → IsOk (after_line gaz kind line)
+  change_taken place was at = subst IsOk (sym (by (is_delete kind) refl)) refl
+    where
+      by : (deletes : Bool) → is_delete kind ≡ deletes → after_line gaz kind line ≡ Ok (step gaz kind line)
+      by true deletes =
+          let new_none = ap one_if (puts_none deletes) in
+          let old_one = ap one_if (some_found place was at) in
+          let few = few_lines in
+          taken_with (counted root.counts table - 1) (omega (arith, new_none, old_one)) (omega (arith, few))
+      by false puts =
+          let new_one = ap one_if (puts_line puts) in
+          let old_one = ap one_if (some_found place was at) in
+          taken_with (counted root.counts table) (omega (arith, new_one, old_one)) few_lines
 
   -- The line that is put stands there already.
   pub same_stands : (place : ℕ) → is_delete kind ≡ false → StandsAt v key stands.pairs place line → Stepped v root

@@ -1,11 +1,12 @@
 -- What a step promises, and its parts for a line that comes, goes, or takes the place of another.
-use Rattle.std.specs.Prelude.{◌≡◌, ◌≤◌, ◌+◌, ℕ, List, [], ◌∷◌, take, Option, Some, None, Result, Ok, Err, Contains, IsTrue}
+use Rattle.std.specs.Prelude.{◌≡◌, ◌≤◌, ◌<◌, ℕ, Bool, false, List, [], ◌∷◌, take, Option, Some, None, Result, Ok, Err, Contains, IsTrue}
 use Rattle.gaz_num.specs.declared.words.Kind.{Kind}
 use Rattle.gaz_num.specs.declared.words.Reason.{Reason}
 use Rattle.gaz_num.specs.declared.words.Table.{Table}
 use Rattle.gaz_num.specs.declared.words.Table.TheVariants.{Codes}
 use Rattle.gaz_num.specs.Pieces.{column}
-use Rattle.gaz_plain.specs.Gazetteer.{Gazetteer, after_line, limit_of, table_of}
+use Rattle.gaz_num.specs.Check.{key_in}
+use Rattle.gaz_plain.specs.Gazetteer.{Gazetteer, after_line, limit_of, table_of, is_delete, line_with}
 use Rattle.gaz_page.specs.declared.tree_root.Root.{Root}
 use Rattle.gaz_page.specs.Pages.{PagesView, SamePages}
 use Rattle.gaz_leaf.specs.Node.{Pair, key_of}
@@ -13,11 +14,12 @@ use Rattle.gaz_tree.specs.Pairs.{lookup}
 use Rattle.gaz_heap.specs.Place.{record_at}
 use Rattle.gaz_keys.specs.Lines.{IsKeyed}
 use Rattle.gaz_rows.specs.declared.fault.StepFault.{StepFault}
-use Rattle.gaz_rows.specs.declared.fault.StepFault.TheVariants.{Malformed, Full, Damaged}
+use Rattle.gaz_rows.specs.declared.fault.StepFault.TheVariants.{Malformed, Full, Failed, Damaged, Memory}
 use Rattle.gaz_rows.specs.Laid.{IsLaid}
 use Rattle.gaz_rows.specs.Index.{Slots, line_key}
-use Rattle.gaz_rows.specs.Steps.{SameSlots, IsSlotOf, counted, recounted}
+use Rattle.gaz_rows.specs.Steps.{SameSlots, IsSlotOf, counted, recounted, line_put}
 use Rattle.gaz_rows.specs.Store.{IsStore, IsStepFaultOf, StepFailsOnce}
+use Rattle.gaz_rows.specs.Work.{ChangesFew}
 use Rattle.gaz_rows.specs.Change.{HasLeft}
 
 -- The line is refused by its check, with this reason, exactly where there is one.
@@ -45,14 +47,39 @@ IsRefused old root new now (Err (Malformed reason)) = (IsTrue old.is_told → Sa
 IsRefused old root new now (Err (Full table)) = (IsTrue old.is_told → SamePages old new) × (new.changed ≡ old.changed) × (now ≡ root)
 IsRefused old root new now other = Unit
 
--- What a step costs: at most so many pages are changed, by a tree of a height of at most 6. The count of faults rises by one where the pages
--- failed, and else stands.
-pub record StepCosts (most : ℕ) (old : PagesView) (root : Root) (new : PagesView) (result : Result Unit StepFault) : Type 0 where
+-- The pages and the root are what they were, and no page was changed.
+pub record StandsStill (old : PagesView) (root : Root) (new : PagesView) (now : Root) : Type 0 where
+  pub same : SamePages old new
+  pub unchanged : new.changed ≡ old.changed
+  pub root_same : now ≡ root
+
+-- The table has already what a line puts there: this line, or none where it takes out. So it is with a comment.
+abbrev pub HasAlready : Gazetteer → Kind → List ℕ → Type 0
+HasAlready gaz kind line = (key : List ℕ) → key_in kind line ≡ Some key → line_with (table_of kind) key gaz ≡ line_put kind line
+
+-- A line that changes nothing in the gazetteer for which the pages stand changes no page.
+abbrev pub IsIdle : Kind → List ℕ → PagesView → Root → PagesView → Root → Type 0
+IsIdle kind line old root new now = (gaz : Gazetteer) → IsStore gaz old root → HasAlready gaz kind line → StandsStill old root new now
+
+-- The table is full only where the line would be put there, and the root counts as many lines in it as it may hold.
+abbrev pub IsFullBy : Kind → Root → StepFault → Type 0
+IsFullBy kind root (Full table) = (is_delete kind ≡ false) × (table ≡ table_of kind) × (limit_of (table_of kind) ≤ counted root.counts (table_of kind))
+IsFullBy kind root other = Unit
+
+-- Memory of the pages is wanting from now on only where the answer says that memory is.
+abbrev pub StepStarves : Bool → Bool → Result Unit StepFault → Type 0
+StepStarves before now (Err Memory) = IsTrue before → IsTrue now
+StepStarves before now other = now ≡ before
+
+-- What a step costs: at most so many pages are changed, by a tree of a height of at most 6, which stays such a tree. The count of faults rises
+-- by one where the pages failed, and else stands.
+pub record StepCosts (most : ℕ) (old : PagesView) (root : Root) (new : PagesView) (now : Root) (result : Result Unit StepFault) : Type 0 where
   pub told : new.is_told ≡ old.is_told
   pub read_only : new.is_read_only ≡ old.is_read_only
   pub reads_grow : old.reads ≤ new.reads
-  pub changed : root.height ≤ 6 → new.changed ≤ old.changed + most
+  pub few : root.height ≤ 6 → ChangesFew most old new root now
   pub faults : StepFailsOnce old.faults new.faults result
+  pub starved : StepStarves old.is_starved new.is_starved result
 
 -- the root with other numbers of the tree, another page for new records and other counts at most
 abbrev pub HasNewCounts : Root → Root → Type 0
@@ -67,12 +94,13 @@ pub record StandsAt (v : PagesView) (key : List ℕ) (pairs : List Pair) (place 
   pub at : lookup (key_of key) pairs ≡ Some place
   pub record_is : record_at v.page place ≡ Some line
 
--- Over pages with room that are laid so, the fault of a line that comes is that its table is full, and else no damage.
+-- The fault of a line that comes is that its table is full, or memory is wanting where it isn't. Over pages with room that are laid so it is no damage.
 abbrev pub ComesRightly : Table → Root → PagesView → StepFault → Type 0
 ComesRightly table root v (Full other) = (other ≡ table) × (limit_of table ≤ counted root.counts table)
 ComesRightly table root v (Malformed reason) = ⊥
 ComesRightly table root v (Damaged page) = (pairs : List Pair) (places : List ℕ) → IsTrue v.is_told → IsLaid v root pairs (root.heap ∷ []) places → HasLeft v pairs → ⊥
-ComesRightly table root v other = Unit
+ComesRightly table root v Memory = counted root.counts table < limit_of table
+ComesRightly table root v Failed = Unit
 
 -- The fault of a line that goes, or is replaced, is no damage over pages with room that are laid so and have the line in its place.
 abbrev pub ChangesRightly : Table → Root → PagesView → ℕ → List ℕ → StepFault → Type 0

@@ -1,5 +1,5 @@
 -- What the calls of a store promise.
-use Rattle.std.specs.Prelude.{◌≡◌, ◌≤◌, ℕ, Bool, List, [], take, Option, option_map, Result, Err, IfErr, IsTrue}
+use Rattle.std.specs.Prelude.{◌≡◌, ◌≤◌, ℕ, Bool, List, [], take, Option, option_map, Result, Err, IsOk, IfErr, IsTrue}
 use Rattle.gaz_plain.specs.Gazetteer.{Gazetteer}
 use Rattle.gaz_num.specs.declared.words.Table.{Table}
 use Rattle.gaz_plain.specs.Gazetteer.{LineFault, malformed, full, line_with}
@@ -78,12 +78,13 @@ IsSoundOver v root fault = IsTrue v.is_told → (waiting : List (List ℕ)) (gaz
 abbrev pub Answers : Table → List ℕ → PagesView → Root → List ℕ → Option ℕ → Type 0
 Answers table key v root buf found = IsTrue v.is_told → (waiting : List (List ℕ)) (gaz : Gazetteer) → IsStoreBut waiting gaz v root → IsAnswer (line_with table key gaz) buf found
 
--- The fault of a step is that of the definition, or one of the pages.
+-- The fault of a step is that of the definition, or one of the pages. Memory is wanting only where the line would be taken.
 abbrev pub IsStepFaultOf : Result Gazetteer LineFault → StepFault → Type 0
 IsStepFaultOf taken (step.Malformed reason) = taken ≡ Err (malformed reason)
 IsStepFaultOf taken (step.Full table) = taken ≡ Err (full table)
 IsStepFaultOf taken (step.Damaged page) = ⊥
-IsStepFaultOf taken other = Unit
+IsStepFaultOf taken step.Memory = IsOk taken
+IsStepFaultOf taken step.Failed = Unit
 
 -- The count of faults of a step.
 abbrev pub StepFailsOnce : {T : Type 0} → ℕ → ℕ → Result T StepFault → Type 0

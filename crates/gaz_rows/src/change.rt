@@ -1,9 +1,9 @@
 //! What a step changes: a line comes, goes, or takes the place of another.
-ghost use Rattle.std.specs.Prelude.{◌≡◌, ◌≤◌, ◌+◌, ℕ, List, [], ◌∷◌, false, length, IsTrue, IfErr, OnOk, Contains};
+ghost use Rattle.std.specs.Prelude.{◌≡◌, ◌≤◌, ℕ, List, [], ◌∷◌, false, length, IsTrue, IfErr, OnOk, Contains};
 ghost use Rattle.gaz_page.specs.Pages.{HasPageCause, NotDamaged};
 ghost use Rattle.gaz_leaf.specs.Node.{Pair};
 ghost use Rattle.gaz_rows.specs.Laid.{IsLaid};
-ghost use Rattle.gaz_rows.specs.Work.{GoesOn};
+ghost use Rattle.gaz_rows.specs.Work.{GoesOn, ChangesFew};
 ghost use Rattle.gaz_rows.specs.Change.{HasCome, HasGone, HasReplaced, HasNewPages, HasLeft};
 
 use crate::RowStore;
@@ -27,7 +27,7 @@ impl<P: Pages> RowStore<P> {
             → IsLaid (P.view self.old.pages) self.old.root pairs (self.old.root.heap ∷ []) places → HasLeft (P.view self.old.pages) pairs → IfErr result NotDamaged }
         ensures root { HasNewPages self.old.root self.new.root }
         ensures goes_on { GoesOn (P.view self.old.pages) (P.view self.new.pages) }
-        ensures changed { self.old.root.height ≤ 6 → (P.view self.new.pages).changed ≤ (P.view self.old.pages).changed + 320 }
+        ensures few { self.old.root.height ≤ 6 → ChangesFew 320 (P.view self.old.pages) (P.view self.new.pages) self.old.root self.new.root }
         ensures cause { HasPageCause (P.view self.old.pages) (P.view self.new.pages) result }
         ensures keeps { P.keeps self.old.pages self.new.pages }
     {
@@ -58,7 +58,7 @@ impl<P: Pages> RowStore<P> {
             → IfErr result NotDamaged }
         ensures root { HasNewPages self.old.root self.new.root }
         ensures goes_on { GoesOn (P.view self.old.pages) (P.view self.new.pages) }
-        ensures changed { self.old.root.height ≤ 6 → (P.view self.new.pages).changed ≤ (P.view self.old.pages).changed + 320 }
+        ensures few { self.old.root.height ≤ 6 → ChangesFew 320 (P.view self.old.pages) (P.view self.new.pages) self.old.root self.new.root }
         ensures cause { HasPageCause (P.view self.old.pages) (P.view self.new.pages) result }
         ensures keeps { P.keeps self.old.pages self.new.pages }
     {
@@ -93,7 +93,7 @@ impl<P: Pages> RowStore<P> {
             → IfErr result NotDamaged }
         ensures root { HasNewPages self.old.root self.new.root }
         ensures goes_on { GoesOn (P.view self.old.pages) (P.view self.new.pages) }
-        ensures changed { self.old.root.height ≤ 6 → (P.view self.new.pages).changed ≤ (P.view self.old.pages).changed + 320 }
+        ensures few { self.old.root.height ≤ 6 → ChangesFew 320 (P.view self.old.pages) (P.view self.new.pages) self.old.root self.new.root }
         ensures cause { HasPageCause (P.view self.old.pages) (P.view self.new.pages) result }
         ensures keeps { P.keeps self.old.pages self.new.pages }
     {

@@ -5,7 +5,7 @@ ghost use Rattle.gaz_leaf.specs.Node.{Pair, key_of};
 ghost use Rattle.gaz_tree.specs.Pairs.{lookup};
 ghost use Rattle.gaz_keys.specs.Lines.{more_keys, IsKeyed};
 ghost use Rattle.gaz_rows.specs.Laid.{IsLaid};
-ghost use Rattle.gaz_rows.specs.Steps.{counted};
+ghost use Rattle.gaz_rows.specs.Steps.{counted, line_put};
 ghost use Rattle.gaz_rows.specs.Change.{HasCome, HasGone, HasReplaced};
 ghost use Rattle.gaz_plain.specs.Gazetteer.{Gazetteer, is_one_line, table_of, after_line};
 ghost use Rattle.gaz_num.specs.declared.words.Table.TheVariants.{Codes};
@@ -13,7 +13,7 @@ ghost use Rattle.gaz_num.specs.Check.{reason_against, key_in};
 ghost use Rattle.gaz_num.specs.declared.words.Kind.{Kind};
 ghost use Rattle.gaz_rows.specs.Store.{HasAsked, IsSoundOver, IsStore, IsStepFaultOf};
 ghost use Rattle.gaz_rows.specs.Target.{IsTargetOf};
-ghost use Rattle.gaz_rows.specs.Stepping.{IsKeyOver, IsChecked, HasStepped, HasSteppedTo, FailsRightly, StandsAt, HasNewCounts, HasCount, ComesRightly, ChangesRightly, IsRefused, StepCosts, IsOfPages};
+ghost use Rattle.gaz_rows.specs.Stepping.{IsKeyOver, IsChecked, HasStepped, HasSteppedTo, FailsRightly, StandsAt, HasNewCounts, HasCount, ComesRightly, ChangesRightly, IsRefused, IsFullBy, IsIdle, StandsStill, HasAlready, StepCosts, IsOfPages};
 
 use crate::RowStore;
 use crate::counts::{count_of, limit_of, set_count};
@@ -49,7 +49,7 @@ impl<P: Pages> RowStore<P> {
         ensures fault { IfErr result (ComesRightly table self.old.root (P.view self.old.pages)) }
         ensures refused { IsRefused (P.view self.old.pages) self.old.root (P.view self.new.pages) self.new.root result }
         ensures root { HasNewCounts self.old.root self.new.root }
-        ensures costs { StepCosts 320 (P.view self.old.pages) self.old.root (P.view self.new.pages) result }
+        ensures costs { StepCosts 320 (P.view self.old.pages) self.old.root (P.view self.new.pages) self.new.root result }
         ensures keeps { P.keeps self.old.pages self.new.pages }
     {
         let count = count_of(&self.root.counts, table);
@@ -85,7 +85,7 @@ impl<P: Pages> RowStore<P> {
         ensures count { OnOk result (HasCount table (counted self.old.root.counts table - 1) self.old.root self.new.root) }
         ensures fault { IfErr result (ChangesRightly table self.old.root (P.view self.old.pages) place was.now) }
         ensures root { HasNewCounts self.old.root self.new.root }
-        ensures costs { StepCosts 320 (P.view self.old.pages) self.old.root (P.view self.new.pages) result }
+        ensures costs { StepCosts 320 (P.view self.old.pages) self.old.root (P.view self.new.pages) self.new.root result }
         ensures keeps { P.keeps self.old.pages self.new.pages }
     {
         let count = count_of(&self.root.counts, table);
@@ -124,7 +124,7 @@ impl<P: Pages> RowStore<P> {
         ensures count { self.new.root.counts ≡ self.old.root.counts }
         ensures fault { IfErr result (ChangesRightly table self.old.root (P.view self.old.pages) place was.now) }
         ensures root { HasNewCounts self.old.root self.new.root }
-        ensures costs { StepCosts 320 (P.view self.old.pages) self.old.root (P.view self.new.pages) result }
+        ensures costs { StepCosts 320 (P.view self.old.pages) self.old.root (P.view self.new.pages) self.new.root result }
         ensures keeps { P.keeps self.old.pages self.new.pages }
     {
         if !is_keyed(table, was) {
@@ -161,9 +161,10 @@ impl<P: Pages> RowStore<P> {
         ensures stands { OnOk result (IsTrue (P.view self.old.pages).is_told → (gaz : Gazetteer) (stands : IsStore gaz (P.view self.old.pages) self.old.root)
             → IsKeyOver gaz stands.slots kind line.now key.now → StandsAt (P.view self.old.pages) key.now stands.pairs place was.now → IsTrue (is_one_line line.now)
             → HasSteppedTo gaz kind line.now (P.view self.new.pages) self.new.root) }
+        ensures idle { OnOk result (IsTrue (P.view self.old.pages).is_told → line_put kind line.now ≡ Some was.now → StandsStill (P.view self.old.pages) self.old.root (P.view self.new.pages) self.new.root) }
         ensures fault { IfErr result (ChangesRightly (table_of kind) self.old.root (P.view self.old.pages) place was.now) }
         ensures root { HasNewCounts self.old.root self.new.root }
-        ensures costs { StepCosts 320 (P.view self.old.pages) self.old.root (P.view self.new.pages) result }
+        ensures costs { StepCosts 320 (P.view self.old.pages) self.old.root (P.view self.new.pages) self.new.root result }
         ensures keeps { P.keeps self.old.pages self.new.pages }
     {
         if is_delete(kind) {
@@ -194,9 +195,12 @@ impl<P: Pages> RowStore<P> {
         ensures fault { IfErr result (λ fault. IsTrue (P.view self.old.pages).is_told → (gaz : Gazetteer) (stands : IsStore gaz (P.view self.old.pages) self.old.root)
             → IsKeyOver gaz stands.slots kind line.now key.now → lookup (key_of key.now) stands.pairs ≡ Some place → IsTrue (is_one_line line.now)
             → IsStepFaultOf (after_line gaz kind line.now) fault) }
-        ensures told_why { IfErr result IsOfPages }
+        ensures idle { OnOk result (IsTrue (P.view self.old.pages).is_told → (gaz : Gazetteer) (stands : IsStore gaz (P.view self.old.pages) self.old.root)
+            → IsKeyOver gaz stands.slots kind line.now key.now → lookup (key_of key.now) stands.pairs ≡ Some place → IsTrue (is_one_line line.now) → HasAlready gaz kind line.now
+            → StandsStill (P.view self.old.pages) self.old.root (P.view self.new.pages) self.new.root) }
+        ensures why { IfErr result IsOfPages }
         ensures root { HasNewCounts self.old.root self.new.root }
-        ensures costs { StepCosts 320 (P.view self.old.pages) self.old.root (P.view self.new.pages) result }
+        ensures costs { StepCosts 320 (P.view self.old.pages) self.old.root (P.view self.new.pages) self.new.root result }
         ensures keeps { P.keeps self.old.pages self.new.pages }
     {
         let mut buf = [0; 65535];
@@ -239,17 +243,20 @@ impl<P: Pages> RowStore<P> {
 
     /// Takes the line with the key of this one out of its table, and puts this one in its place unless it is one that only takes out; what
     /// `PlainGaz::step` does. Of the index only those keys change that the two lines don't share, and a line that isn't longer keeps its place.
-    /// `Malformed` and `Full` are those of the definition, and leave all as it was; after another fault the store is to be dropped. At most 320
-    /// pages are changed.
+    /// A line that changes nothing there changes no page. `Malformed` and `Full` are those of the definition, and leave all as it was, and
+    /// `Memory` comes only where the line would be taken; after another fault than these two the store is to be dropped. At most 320 pages are
+    /// changed, and the height stays at most 6.
     pub fn step(&mut self, alloc: Global, kind: Kind, line: &[u8]) -> Result<(), StepFault>
         requires one_line { IsTrue (is_one_line line.now) }
         requires may_change { (P.view self.old.pages).is_read_only ≡ false }
         ensures steps { OnOk result (IsTrue (P.view self.old.pages).is_told → HasStepped kind line.now (P.view self.old.pages) self.old.root (P.view self.new.pages) self.new.root) }
+        ensures idle { OnOk result (IsTrue (P.view self.old.pages).is_told → IsIdle kind line.now (P.view self.old.pages) self.old.root (P.view self.new.pages) self.new.root) }
         ensures checked { IsChecked (reason_against kind line.now) result }
         ensures fault { IfErr result (λ fault. IsTrue (P.view self.old.pages).is_told → FailsRightly kind line.now (P.view self.old.pages) self.old.root fault) }
+        ensures full { IfErr result (IsFullBy kind self.old.root) }
         ensures refused { IsRefused (P.view self.old.pages) self.old.root (P.view self.new.pages) self.new.root result }
         ensures root { HasNewCounts self.old.root self.new.root }
-        ensures costs { StepCosts 320 (P.view self.old.pages) self.old.root (P.view self.new.pages) result }
+        ensures costs { StepCosts 320 (P.view self.old.pages) self.old.root (P.view self.new.pages) self.new.root result }
         ensures keeps { P.keeps self.old.pages self.new.pages }
     {
         let target = match target_of(kind, line) {

@@ -1,4 +1,4 @@
-use Rattle.std.proofs.Common.{sym, ap, subst, ◌∙◌, ◌-◌, ◌≡◌}
+use Rattle.std.proofs.Common.{sym, ap, subst, ◌∙◌, ◌-◌, ◌≡◌, true, false}
 use Rattle.gaz_page.specs.declared.tree_root.Root.{Root}
 use Rattle.gaz_keys.specs.Lines.{more_keys}
 use Rattle.gaz_rows.specs.Stands.{places_in}
@@ -7,7 +7,7 @@ use Rattle.gaz_rows.specs.Stepping.{StandsAt}
 use Rattle.gaz_rows.specs.Change.{HasGone, HasReplaced}
 use Rattle.std.proofs.lemmas.Slice.Eq.{bytes_eq-Decides}
 use Rattle.gaz_rows.proofs.Working.{map_ok, both_ok}
-use Rattle.gaz_rows.proofs.SteppedOver.{go_over, replace_over, same_over, laid_over, there_over}
+use Rattle.gaz_rows.proofs.SteppedOver.{put_is_none, put_is_line, still, go_over, replace_over, same_over, laid_over, there_over}
 use Rattle.gaz_rows.proofs.store.RowStore.change.Goals as goal
 
 pub returns-then-is_delete-clause-stands : goal.returns-then-is_delete-clause-stands
@@ -51,3 +51,22 @@ returns-clause-stands g c =
     c.replace.ensures.count
     (ap (λ (r : Root). r.day) c.replace.ensures.root))
     c.replace.ensures.replaced
+
+pub returns-then-is_delete-clause-idle : goal.returns-then-is_delete-clause-idle
+returns-then-is_delete-clause-idle g c =
+    map_ok c.go.result
+    (λ count told put. absurd (put_is_none c.args.kind c.args.line.now c.args.was.now (sym c.is_delete.ensures ∙ c.if-is_delete.true) put))
+    c.go.ensures.count
+
+pub returns-then-eq-clause-idle : goal.returns-then-eq-clause-idle
+returns-then-eq-clause-idle g c told put = still (g.P.Pages.view c.args.self.now.pages) c.args.self.now.root
+
+pub returns-clause-idle : goal.returns-clause-idle
+returns-clause-idle g c =
+    map_ok c.replace.result
+    (λ replaced told put.
+    absurd (differ (sym ((bytes_eq-Decides c.args.was.now c.args.line.now).1 (put_is_line c.args.kind c.args.line.now c.args.was.now (sym c.is_delete.ensures ∙ c.if-is_delete.false) put)) ∙ sym c.eq.ensures ∙ c.if-eq.false)))
+    c.replace.ensures.replaced
+  where
+    differ : true ≡ false → ⊥
+    differ same = cc

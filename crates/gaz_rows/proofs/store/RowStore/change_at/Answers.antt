@@ -1,9 +1,8 @@
-use Rattle.std.proofs.Common.{sym, subst, ap, ◌≡◌, []}
-use Rattle.std.specs.Prelude.{IsTrue, take, Some}
-use Rattle.gaz_heap.specs.Place.{record_at}
+use Rattle.std.proofs.Common.{sym, subst, []}
+use Rattle.std.specs.Prelude.{IsTrue, take}
 use Rattle.gaz_rows.specs.Stepping.{StandsAt}
 use Rattle.gaz_rows.proofs.Working.{map_ok}
-use Rattle.gaz_rows.proofs.SteppedOver.{stands_same, record_here, change_rightly, map_err, at_same, ask_rightly}
+use Rattle.gaz_rows.proofs.SteppedOver.{stands_same, record_here, change_rightly, map_err, at_same, ask_rightly, already_over, still_behind}
 use Rattle.gaz_rows.proofs.store.RowStore.change_at.Goals as goal
 
 pub returns-in-Ok-clause-stands : goal.returns-in-Ok-clause-stands
@@ -23,6 +22,25 @@ returns-in-Ok-clause-stands g c =
     let stands_at = at_same old mid c.args.key.now stands.pairs c.args.place was same stood in
     st told_mid gaz stands_mid over stands_at one)
     c.change.ensures.stands
+
+pub returns-in-Ok-clause-idle : goal.returns-in-Ok-clause-idle
+returns-in-Ok-clause-idle g c =
+    map_ok c.change.result
+    (λ idle told gaz stands over at one has.
+    let v = g.P.Pages.view in
+    let old = v c.args.self.now.pages in
+    let mid = v c.record.new.self.pages in
+    let root = c.args.self.now.root in
+    let same = c.in-Ok.ensures.asked.same told in
+    let told_mid : IsTrue mid.is_told = subst IsTrue (sym c.record.ensures.asked.counts.told) told in
+    let here = record_here gaz old root stands c.args.kind c.args.line.now c.args.key.now one c.requires.accepted c.requires.keyed over c.args.place at in
+    let stands_mid = stands_same [] gaz old mid root c.record.new.self.root same c.record.ensures.root stands in
+    let was = take c.in-Ok.size c.record.new.buf in
+    let stood : StandsAt old c.args.key.now stands.pairs c.args.place was = record { at = at; record_is = c.in-Ok.ensures.record told here } in
+    let stands_at = at_same old mid c.args.key.now stands.pairs c.args.place was same stood in
+    let already = already_over gaz mid c.record.new.self.root stands_mid c.args.kind c.args.line.now c.args.key.now one c.requires.accepted c.requires.keyed over c.args.place was stands_at has in
+    still_behind old mid (v c.change.new.self.pages) root c.record.new.self.root c.change.new.self.root same c.record.ensures.asked.unchanged c.record.ensures.root (idle told_mid already))
+    c.change.ensures.idle
 
 pub returns-in-Ok-clause-fault : goal.returns-in-Ok-clause-fault
 returns-in-Ok-clause-fault g c =

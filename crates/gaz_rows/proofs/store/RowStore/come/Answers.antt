@@ -1,4 +1,4 @@
-use Rattle.std.proofs.Common.{refl, subst, ◌∙◌}
+use Rattle.std.proofs.Common.{refl, subst, ◌∙◌, arith}
 use Rattle.std.specs.Prelude.{Some, []}
 use Rattle.gaz_tree.specs.Pairs.{put}
 use Rattle.gaz_keys.specs.Lines.{more_keys}
@@ -23,5 +23,8 @@ returns-in-Ok-add_line-clause-come g c told pairs places laid =
 
 pub returns-in-Err-add_line-clause-fault : goal.returns-in-Err-add_line-clause-fault
 returns-in-Err-add_line-clause-fault g c =
+    let count = c.count_of-count.ensures in
+    let limit = c.limit_of.ensures in
+    let less = c.if-count-limit_of.false in
     come_fault c.args.table c.args.self.now.root (g.P.Pages.view c.args.self.now.pages) c.in-Err-add_line.fault c.from.result
-    (λ told pairs places laid left. c.in-Err-add_line.ensures.damaged told pairs places laid left) c.from.ensures
+    (λ told pairs places laid left. c.in-Err-add_line.ensures.damaged told pairs places laid left) (omega (arith, count, limit, less)) c.from.ensures

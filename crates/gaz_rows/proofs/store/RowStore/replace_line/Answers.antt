@@ -48,6 +48,7 @@ returns-in-Ok-put_key-clause-replaced g c =
     first (zeros told_three) in
     record {
       place_now = c.in-Ok.place;
+      stays = c.in-Ok.ensures.stays told;
       changed = come_by (0 + 7 + 7 * length c.args.more.now) (λ ps. put_zeros come (put p (without_all gone ps))) old one new c.put_for.new.self.root c.put_missing.new.self.root pairs (all_but c.args.place places) c.args.line.now c.in-Ok.place
           stands.laid stands.there stands.unlisted stands.same turned
           (ap (λ (r : Root). r.heap) c.put_missing.ensures.root ∙ ap (λ (r : Root). r.heap) c.put_key.ensures.root ∙ ap (λ (r : Root). r.heap) c.remove_missing.ensures.root);

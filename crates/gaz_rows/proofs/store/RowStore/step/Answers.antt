@@ -1,5 +1,5 @@
 use Rattle.std.proofs.Common.{sym, ap, subst, ◌∙◌, ◌≡◌, ◌+◌, ◌<◌, []}
-use Rattle.std.specs.Prelude.{IsTrue, take}
+use Rattle.std.specs.Prelude.{IsTrue}
 use Rattle.gaz_page.specs.declared.tree_root.Root.{Root}
 use Rattle.gaz_plain.specs.Gazetteer.{limit_of}
 use Rattle.gaz_keys.specs.Lines.{more_keys}
@@ -9,7 +9,7 @@ use Rattle.gaz_rows.specs.Change.{HasCome}
 use Rattle.gaz_rows.specs.Stepping.{ComesRightly}
 use Rattle.gaz_rows.proofs.Working.{map_ok, all_ok}
 use Rattle.gaz_rows.proofs.ReindexedTaken.{is_malformed, is_comment}
-use Rattle.gaz_rows.proofs.SteppedOver.{short_line, ask_rightly, target_keyed, behind, come_over, come_rightly, none_over, laid_over, map_err, stands_same}
+use Rattle.gaz_rows.proofs.SteppedOver.{short_line, ask_rightly, target_keyed, behind, come_over, come_rightly, none_over, laid_over, map_err, stands_same, come_full, ask_full, lacking_over, still, still_behind, pages_full}
 use Rattle.gaz_rows.proofs.store.RowStore.step.Goals as goal
 
 pub returns-in-Ok-None-clause-steps : goal.returns-in-Ok-None-clause-steps
@@ -118,3 +118,63 @@ returns-in-Err-place-clause-fault g c told gaz stands =
     let keyed = target_keyed c.args.kind c.args.line.now c.in-Ok-Some.target target.1 in
     let between = stands_same [] gaz (v c.args.self.now.pages) (v c.key_of.new.self.pages) c.args.self.now.root c.key_of.new.self.root (c.in-Ok.ensures.asked.same told) c.key_of.ensures.root stands in
     ask_rightly gaz c.args.kind c.args.line.now c.in-Err-place.fault c.from-in-Err-place.result (c.in-Err-place.ensures.damaged told_between between.pairs between.tree) c.from-in-Err-place.ensures
+
+pub returns-in-Err-key_of-clause-full : goal.returns-in-Err-key_of-clause-full
+returns-in-Err-key_of-clause-full g c = ask_full c.args.kind c.args.self.now.root c.in-Err-key_of.fault c.from.result c.from.ensures
+
+pub returns-in-Err-place-clause-full : goal.returns-in-Err-place-clause-full
+returns-in-Err-place-clause-full g c = ask_full c.args.kind c.args.self.now.root c.in-Err-place.fault c.from-in-Err-place.result c.from-in-Err-place.ensures
+
+pub returns-in-Ok-Some-place-clause-full : goal.returns-in-Ok-Some-place-clause-full
+returns-in-Ok-Some-place-clause-full g c = map_err c.change_at.result (λ fault why. pages_full c.args.kind c.args.self.now.root fault why) c.change_at.ensures.why
+
+pub returns-in-Ok-None-2-clause-full : goal.returns-in-Ok-None-2-clause-full
+returns-in-Ok-None-2-clause-full g c =
+    map_err c.come.result
+    (λ fault right. come_full c.args.kind c.args.self.now.root c.place.new.self.root (g.P.Pages.view c.place.new.self.pages) fault (c.place.ensures.root ∙ c.key_of.ensures.root)
+    (sym c.is_delete.ensures ∙ c.if-is_delete.false)
+    (subst (λ t. ComesRightly t c.place.new.self.root (g.P.Pages.view c.place.new.self.pages) fault) c.table_of.ensures right))
+    c.come.ensures.fault
+
+pub returns-in-Ok-None-clause-idle : goal.returns-in-Ok-None-clause-idle
+returns-in-Ok-None-clause-idle g c told gaz stands has = still (g.P.Pages.view c.args.self.now.pages) c.args.self.now.root
+
+pub returns-in-Ok-None-place-clause-idle : goal.returns-in-Ok-None-place-clause-idle
+returns-in-Ok-None-place-clause-idle g c told gaz stands has =
+    let v = g.P.Pages.view in
+    let told_between : IsTrue (v c.key_of.new.self.pages).is_told = subst IsTrue (sym c.key_of.ensures.asked.counts.told) told in
+    still_behind (v c.args.self.now.pages) (v c.key_of.new.self.pages) (v c.place.new.self.pages) c.args.self.now.root c.key_of.new.self.root c.place.new.self.root (c.in-Ok.ensures.asked.same told) c.key_of.ensures.asked.unchanged c.key_of.ensures.root
+    (still_behind (v c.key_of.new.self.pages) (v c.place.new.self.pages) (v c.place.new.self.pages) c.key_of.new.self.root c.place.new.self.root c.place.new.self.root (c.in-Ok-None-place.ensures.asked.same told_between) c.place.ensures.asked.unchanged c.place.ensures.root
+    (still (v c.place.new.self.pages) c.place.new.self.root))
+
+pub returns-in-Ok-Some-place-clause-idle : goal.returns-in-Ok-Some-place-clause-idle
+returns-in-Ok-Some-place-clause-idle g c =
+    map_ok c.change_at.result
+    (λ idle told gaz stands has.
+    let v = g.P.Pages.view in
+    let told_between : IsTrue (v c.key_of.new.self.pages).is_told = subst IsTrue (sym c.key_of.ensures.asked.counts.told) told in
+    let target = rw c.in-Ok-Some.field-0-is at c.in-Ok-Some.ensures in
+    let keyed = target_keyed c.args.kind c.args.line.now c.in-Ok-Some.target target.1 in
+    let b = behind gaz (v c.args.self.now.pages) (v c.key_of.new.self.pages) (v c.place.new.self.pages) c.args.self.now.root c.key_of.new.self.root c.place.new.self.root stands c.args.kind c.args.line.now c.in-Ok.key
+    c.requires.one_line target.0 keyed (subst IsTrue (sym c.place.ensures.asked.counts.told) told_between) (c.in-Ok.ensures.asked.same told) c.key_of.ensures.root (c.in-Ok-Some-place.ensures.asked.same told_between) c.place.ensures.root
+    (c.in-Ok.ensures.key told gaz stands c.args.kind c.args.line.now target.1) in
+    let at = rw c.in-Ok-Some-place.field-0-is at c.in-Ok-Some-place.ensures.found told_between b.stands_between.pairs b.stands_between.tree in
+    still_behind (v c.args.self.now.pages) (v c.key_of.new.self.pages) (v c.change_at.new.self.pages) c.args.self.now.root c.key_of.new.self.root c.change_at.new.self.root (c.in-Ok.ensures.asked.same told) c.key_of.ensures.asked.unchanged c.key_of.ensures.root
+    (still_behind (v c.key_of.new.self.pages) (v c.place.new.self.pages) (v c.change_at.new.self.pages) c.key_of.new.self.root c.place.new.self.root c.change_at.new.self.root (c.in-Ok-Some-place.ensures.asked.same told_between) c.place.ensures.asked.unchanged c.place.ensures.root
+    (idle b.told gaz b.stands_now b.over at c.requires.one_line has)))
+    c.change_at.ensures.idle
+
+pub returns-in-Ok-None-2-clause-idle : goal.returns-in-Ok-None-2-clause-idle
+returns-in-Ok-None-2-clause-idle g c =
+    map_ok c.come.result
+    (λ count told gaz stands has.
+    let v = g.P.Pages.view in
+    let told_between : IsTrue (v c.key_of.new.self.pages).is_told = subst IsTrue (sym c.key_of.ensures.asked.counts.told) told in
+    let target = rw c.in-Ok-Some.field-0-is at c.in-Ok-Some.ensures in
+    let keyed = target_keyed c.args.kind c.args.line.now c.in-Ok-Some.target target.1 in
+    let b = behind gaz (v c.args.self.now.pages) (v c.key_of.new.self.pages) (v c.place.new.self.pages) c.args.self.now.root c.key_of.new.self.root c.place.new.self.root stands c.args.kind c.args.line.now c.in-Ok.key
+    c.requires.one_line target.0 keyed (subst IsTrue (sym c.place.ensures.asked.counts.told) told_between) (c.in-Ok.ensures.asked.same told) c.key_of.ensures.root (c.in-Ok-None-place.ensures.asked.same told_between) c.place.ensures.root
+    (c.in-Ok.ensures.key told gaz stands c.args.kind c.args.line.now target.1) in
+    let none = rw c.in-Ok-None-place.field-0-is at c.in-Ok-None-place.ensures.found told_between b.stands_between.pairs b.stands_between.tree in
+    absurd (lacking_over gaz (v c.place.new.self.pages) c.place.new.self.root b.stands_now c.args.kind c.args.line.now c.in-Ok.key c.requires.one_line target.0 keyed b.over (sym c.is_delete.ensures ∙ c.if-is_delete.false) none has))
+    c.come.ensures.count
