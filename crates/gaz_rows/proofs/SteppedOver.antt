@@ -58,6 +58,9 @@ numbers_of kind line has = by (key_in kind line) refl has
     by None is has = absurd (cc)
     by (Some numbers) is has = (numbers, is)
 
+same_some : (a b : List ℕ) → Some a ≡ Some b → a ≡ b
+same_some a b same = cc
+
 -- A line that isn't one that only takes out is put.
 pub put_is_some : (kind : Kind) (line : List ℕ) → is_delete kind ≡ false → line_put kind line ≡ None → ⊥
 put_is_some kind line puts is = differ (sym (ap (λ (b : Bool). if b then None else Some line) puts) ∙ is)
@@ -74,10 +77,7 @@ put_is_none kind line was deletes is = differ (sym (ap (λ (b : Bool). if b then
 
 -- What is put is the line.
 pub put_is_line : (kind : Kind) (line was : List ℕ) → is_delete kind ≡ false → line_put kind line ≡ Some was → was ≡ line
-put_is_line kind line was puts is = one (sym (ap (λ (b : Bool). if b then None else Some line) puts) ∙ is)
-  where
-    one : Some line ≡ Some was → was ≡ line
-    one same = cc
+put_is_line kind line was puts is = same_some was line (sym is ∙ ap (λ (b : Bool). if b then None else Some line) puts)
 
 -- ---- the key of a code
 
@@ -220,6 +220,21 @@ module _ (gaz : Gazetteer) (v : PagesView) (root : Root) (stands : StandsForBut 
   pub lacking_over : is_delete kind ≡ false → lookup (key_of key) stands.pairs ≡ None → HasAlready gaz kind line → ⊥
   lacking_over puts none has_already =
       put_is_some kind line puts (sym (has_already (numbers_of kind line has).0 (numbers_of kind line has).1) ∙ none_found gaz v root stands over.now kind line (numbers_of kind line has).0 key meets over.is none)
+
+  -- The line that its table has is the one that stands there.
+  pub was_over : (place : ℕ) (was : List ℕ) → StandsAt v key stands.pairs place was → (number earlier : List ℕ) → key_in kind line ≡ Some number → line_with (table_of kind) number gaz ≡ Some earlier → earlier ≡ was
+  was_over place was at number earlier keyed found =
+      same_some earlier was (sym found ∙ ap (λ n. line_with (table_of kind) n gaz) (same_some number (numbers_of kind line has).0 (sym keyed ∙ (numbers_of kind line has).1))
+      ∙ some_found gaz v root stands over.now kind line (numbers_of kind line has).0 key meets over.is place was at)
+
+  -- Where none stands there it has none.
+  pub lacks_over : lookup (key_of key) stands.pairs ≡ None → (number earlier : List ℕ) → key_in kind line ≡ Some number → line_with (table_of kind) number gaz ≡ Some earlier → ⊥
+  lacks_over none number earlier keyed found =
+      differ (sym (none_found gaz v root stands over.now kind line (numbers_of kind line has).0 key meets over.is none)
+      ∙ ap (λ n. line_with (table_of kind) n gaz) (same_some (numbers_of kind line has).0 number (sym (numbers_of kind line has).1 ∙ keyed)) ∙ found)
+    where
+      differ : None ≡ Some earlier → ⊥
+      differ same = cc
 
 -- What a line speaks of has a key in its table.
 pub target_keyed : (kind : Kind) (line : List ℕ) (target : Target) → IsTargetOf kind line (Some target) → IsSome (key_in kind line)

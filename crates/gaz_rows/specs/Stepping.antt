@@ -1,5 +1,5 @@
 -- What a step promises, and its parts for a line that comes, goes, or takes the place of another.
-use Rattle.std.specs.Prelude.{◌≡◌, ◌≤◌, ◌<◌, ◌+◌, ℕ, Bool, false, List, [], ◌∷◌, take, Option, Some, None, Result, Ok, Err, Contains, IsTrue}
+use Rattle.std.specs.Prelude.{◌≡◌, ◌≤◌, ◌<◌, ◌+◌, ◌*◌, ℕ, Bool, false, List, [], ◌∷◌, length, take, Option, Some, None, Result, Ok, Err, Contains, IsTrue}
 use Rattle.gaz_num.specs.declared.words.Kind.{Kind}
 use Rattle.gaz_num.specs.declared.words.Reason.{Reason}
 use Rattle.gaz_num.specs.declared.words.Table.{Table}
@@ -12,14 +12,14 @@ use Rattle.gaz_page.specs.Pages.{PagesView, SamePages}
 use Rattle.gaz_leaf.specs.Node.{Pair, key_of}
 use Rattle.gaz_tree.specs.Pairs.{lookup}
 use Rattle.gaz_heap.specs.Place.{record_at}
-use Rattle.gaz_keys.specs.Lines.{IsKeyed}
+use Rattle.gaz_keys.specs.Lines.{IsKeyed, more_keys}
 use Rattle.gaz_rows.specs.declared.fault.StepFault.{StepFault}
 use Rattle.gaz_rows.specs.declared.fault.StepFault.TheVariants.{Malformed, Full, Failed, Damaged, Memory}
 use Rattle.gaz_rows.specs.Laid.{IsLaid}
 use Rattle.gaz_rows.specs.Index.{Slots, line_key}
 use Rattle.gaz_rows.specs.Steps.{SameSlots, IsSlotOf, counted, recounted, line_put}
 use Rattle.gaz_rows.specs.Store.{IsStore, IsStepFaultOf, StepFailsOnce}
-use Rattle.gaz_rows.specs.Work.{ChangesFew}
+use Rattle.gaz_rows.specs.Work.{ChangesFew, missing_in}
 use Rattle.gaz_rows.specs.Change.{HasLeft}
 
 -- The line is refused by its check, with this reason, exactly where there is one.
@@ -60,6 +60,17 @@ HasAlready gaz kind line = (key : List ℕ) → key_in kind line ≡ Some key �
 -- A line that changes nothing in the gazetteer for which the pages stand changes no page.
 abbrev pub IsIdle : Kind → List ℕ → PagesView → Root → PagesView → Root → Type 0
 IsIdle kind line old root new now = (gaz : Gazetteer) → IsStore gaz old root → HasAlready gaz kind line → StandsStill old root new now
+
+-- how many pages change at most where a line takes the place of another: those of its record, of its key, and of the other keys that the two
+-- don't share
+abbrev pub most_between : Table → List ℕ → List ℕ → ℕ
+most_between table was line =
+    75 + 20 * (length (missing_in (more_keys table line) (more_keys table was)) + length (missing_in (more_keys table was) (more_keys table line)))
+
+-- A line that takes the place of another changes so few pages.
+abbrev pub ChangesBetween : Kind → List ℕ → PagesView → Root → PagesView → Type 0
+ChangesBetween kind line old root new = (gaz : Gazetteer) → IsStore gaz old root → (key was : List ℕ) → key_in kind line ≡ Some key → is_delete kind ≡ false
+    → line_with (table_of kind) key gaz ≡ Some was → new.changed ≤ old.changed + most_between (table_of kind) was line
 
 -- The table is full only where the line would be put there, and the root counts as many lines in it as it may hold.
 abbrev pub IsFullBy : Kind → Root → StepFault → Type 0

@@ -5,13 +5,14 @@ ghost use Rattle.gaz_leaf.specs.Node.{Pair};
 ghost use Rattle.gaz_keys.specs.Lines.{more_keys, IsKeyed};
 ghost use Rattle.gaz_rows.specs.Laid.{IsLaid};
 ghost use Rattle.gaz_rows.specs.Steps.{counted, line_put};
+ghost use Rattle.gaz_rows.specs.Work.{ChangesFew};
 ghost use Rattle.gaz_rows.specs.Change.{HasCome, HasGone, HasReplaced};
-ghost use Rattle.gaz_plain.specs.Gazetteer.{Gazetteer, is_one_line, table_of};
+ghost use Rattle.gaz_plain.specs.Gazetteer.{Gazetteer, is_one_line, table_of, is_delete};
 ghost use Rattle.gaz_num.specs.Check.{reason_against, key_in};
 ghost use Rattle.gaz_num.specs.declared.words.Kind.{Kind};
 ghost use Rattle.gaz_rows.specs.Store.{HasAsked, IsSoundOver, IsStore};
 ghost use Rattle.gaz_rows.specs.Target.{IsTargetOf};
-ghost use Rattle.gaz_rows.specs.Stepping.{IsKeyOver, IsChecked, HasStepped, HasSteppedTo, FailsRightly, StandsAt, HasNewCounts, HasCount, ComesRightly, ChangesRightly, IsRefused, IsFullBy, IsIdle, StandsStill, StepCosts};
+ghost use Rattle.gaz_rows.specs.Stepping.{IsKeyOver, IsChecked, HasStepped, HasSteppedTo, FailsRightly, StandsAt, HasNewCounts, HasCount, ComesRightly, ChangesRightly, IsRefused, IsFullBy, IsIdle, StandsStill, ChangesBetween, most_between, StepCosts};
 
 use crate::RowStore;
 use crate::counts::{count_of, limit_of, set_count};
@@ -120,6 +121,7 @@ impl<P: Pages> RowStore<P> {
             → IsLaid (P.view self.old.pages) self.old.root pairs (self.old.root.heap ∷ []) places → Contains places place
             → HasReplaced (P.view self.old.pages) (P.view self.new.pages) self.new.root pairs places key.now (more_keys table was.now) (more_keys table line.now) place line.now) }
         ensures count { self.new.root.counts ≡ self.old.root.counts }
+        ensures differ { self.old.root.height ≤ 6 → ChangesFew (most_between table was.now line.now) (P.view self.old.pages) (P.view self.new.pages) self.old.root self.new.root }
         ensures fault { IfErr result (ChangesRightly table self.old.root (P.view self.old.pages) place was.now) }
         ensures root { HasNewCounts self.old.root self.new.root }
         ensures costs { StepCosts 320 (P.view self.old.pages) self.old.root (P.view self.new.pages) self.new.root result }
@@ -160,6 +162,7 @@ impl<P: Pages> RowStore<P> {
             → IsKeyOver gaz stands.slots kind line.now key.now → StandsAt (P.view self.old.pages) key.now stands.pairs place was.now → IsTrue (is_one_line line.now)
             → HasSteppedTo gaz kind line.now (P.view self.new.pages) self.new.root) }
         ensures idle { OnOk result (IsTrue (P.view self.old.pages).is_told → line_put kind line.now ≡ Some was.now → StandsStill (P.view self.old.pages) self.old.root (P.view self.new.pages) self.new.root) }
+        ensures differ { is_delete kind ≡ false → self.old.root.height ≤ 6 → ChangesFew (most_between (table_of kind) was.now line.now) (P.view self.old.pages) (P.view self.new.pages) self.old.root self.new.root }
         ensures fault { IfErr result (ChangesRightly (table_of kind) self.old.root (P.view self.old.pages) place was.now) }
         ensures root { HasNewCounts self.old.root self.new.root }
         ensures costs { StepCosts 320 (P.view self.old.pages) self.old.root (P.view self.new.pages) self.new.root result }
@@ -204,6 +207,7 @@ impl<P: Pages> RowStore<P> {
         requires may_change { (P.view self.old.pages).is_read_only ≡ false }
         ensures steps { OnOk result (IsTrue (P.view self.old.pages).is_told → HasStepped kind line.now (P.view self.old.pages) self.old.root (P.view self.new.pages) self.new.root) }
         ensures idle { OnOk result (IsTrue (P.view self.old.pages).is_told → IsIdle kind line.now (P.view self.old.pages) self.old.root (P.view self.new.pages) self.new.root) }
+        ensures differ { OnOk result (IsTrue (P.view self.old.pages).is_told → ChangesBetween kind line.now (P.view self.old.pages) self.old.root (P.view self.new.pages)) }
         ensures checked { IsChecked (reason_against kind line.now) result }
         ensures fault { IfErr result (λ fault. IsTrue (P.view self.old.pages).is_told → FailsRightly kind line.now (P.view self.old.pages) self.old.root fault) }
         ensures full { IfErr result (IsFullBy kind self.old.root) }

@@ -3,7 +3,8 @@ use Rattle.gaz_page.specs.declared.tree_root.Root.{Root}
 use Rattle.gaz_keys.specs.Lines.{more_keys}
 use Rattle.gaz_rows.specs.Stands.{places_in}
 use Rattle.gaz_rows.specs.Steps.{counted, recounted}
-use Rattle.gaz_rows.specs.Stepping.{StandsAt}
+use Rattle.gaz_rows.specs.Work.{ChangesFew}
+use Rattle.gaz_rows.specs.Stepping.{StandsAt, most_between}
 use Rattle.gaz_rows.specs.Change.{HasGone, HasReplaced}
 use Rattle.std.proofs.lemmas.Slice.Eq.{bytes_eq-Decides}
 use Rattle.gaz_rows.proofs.Working.{map_ok, both_ok}
@@ -70,3 +71,14 @@ returns-clause-idle g c =
   where
     differ : true ≡ false → ⊥
     differ same = cc
+
+pub returns-then-is_delete-clause-differ : goal.returns-then-is_delete-clause-differ
+returns-then-is_delete-clause-differ g c puts low = absurd (differ (sym (sym c.is_delete.ensures ∙ c.if-is_delete.true) ∙ puts))
+  where
+    differ : true ≡ false → ⊥
+    differ same = cc
+
+pub returns-clause-differ : goal.returns-clause-differ
+returns-clause-differ g c puts low =
+    subst (λ t. ChangesFew (most_between t c.args.was.now c.args.line.now) (g.P.Pages.view c.args.self.now.pages) (g.P.Pages.view c.replace.new.self.pages) c.args.self.now.root c.replace.new.self.root) c.table_of-2.ensures
+    (c.replace.ensures.differ low)

@@ -1,15 +1,15 @@
-use Rattle.std.proofs.Common.{sym, ap, subst, ◌∙◌, ◌≡◌, ◌+◌, ◌<◌, []}
+use Rattle.std.proofs.Common.{arith, ◌≤◌, sym, ap, subst, ◌∙◌, ◌≡◌, ◌+◌, ◌<◌, []}
 use Rattle.std.specs.Prelude.{IsTrue, take}
 use Rattle.gaz_page.specs.declared.tree_root.Root.{Root}
-use Rattle.gaz_plain.specs.Gazetteer.{limit_of}
+use Rattle.gaz_plain.specs.Gazetteer.{limit_of, table_of}
 use Rattle.gaz_keys.specs.Lines.{more_keys}
 use Rattle.gaz_rows.specs.Stands.{places_in}
 use Rattle.gaz_rows.specs.Steps.{counted, recounted}
 use Rattle.gaz_rows.specs.Change.{HasCome}
-use Rattle.gaz_rows.specs.Stepping.{ComesRightly}
+use Rattle.gaz_rows.specs.Stepping.{ComesRightly, most_between}
 use Rattle.gaz_rows.proofs.Working.{map_ok, all_ok}
 use Rattle.gaz_rows.proofs.ReindexedTaken.{is_malformed, is_comment}
-use Rattle.gaz_rows.proofs.SteppedOver.{short_line, ask_rightly, target_keyed, behind, at_same, come_over, come_rightly, change_rightly, none_over, laid_over, map_err, stands_same, record_here, come_full, change_full, ask_full, already_over, lacking_over, still, still_behind}
+use Rattle.gaz_rows.proofs.SteppedOver.{short_line, ask_rightly, target_keyed, behind, at_same, come_over, come_rightly, change_rightly, none_over, laid_over, map_err, stands_same, record_here, come_full, change_full, ask_full, already_over, lacking_over, was_over, lacks_over, still, still_behind}
 use Rattle.gaz_rows.proofs.store.RowStore.step.Goals as goal
 
 pub returns-in-Ok-None-clause-steps : goal.returns-in-Ok-None-clause-steps
@@ -185,4 +185,49 @@ returns-in-Ok-None-2-clause-idle g c =
     (c.in-Ok.ensures.key told gaz stands c.args.kind c.args.line.now target.1) in
     let none = rw c.in-Ok-None-find.field-0-is at c.in-Ok-None-find.ensures.found told_between b.stands_between.pairs b.stands_between.tree b.recorded in
     absurd (lacking_over gaz (v c.find.new.self.pages) c.find.new.self.root b.stands_now c.args.kind c.args.line.now c.in-Ok.key c.requires.one_line target.0 keyed b.over (sym c.is_delete.ensures ∙ c.if-is_delete.false) none has))
+    c.come.ensures.count
+
+pub returns-in-Ok-None-clause-differ : goal.returns-in-Ok-None-clause-differ
+returns-in-Ok-None-clause-differ g c told gaz stands number earlier has puts found = omega arith
+
+pub returns-in-Ok-None-find-clause-differ : goal.returns-in-Ok-None-find-clause-differ
+returns-in-Ok-None-find-clause-differ g c told gaz stands number earlier has puts found =
+    let first = c.key_of.ensures.asked.unchanged in
+    let second = c.find.ensures.asked.unchanged in
+    omega (arith, first, second)
+
+pub returns-in-Ok-Some-find-clause-differ : goal.returns-in-Ok-Some-find-clause-differ
+returns-in-Ok-Some-find-clause-differ g c =
+    map_ok c.change.result
+    (λ idle told gaz stands number earlier has puts found.
+    let v = g.P.Pages.view in
+    let told_between : IsTrue (v c.key_of.new.self.pages).is_told = subst IsTrue (sym c.key_of.ensures.asked.counts.told) told in
+    let target = rw c.in-Ok-Some.field-0-is at c.in-Ok-Some.ensures in
+    let keyed = target_keyed c.args.kind c.args.line.now c.in-Ok-Some.target target.1 in
+    let b = behind gaz (v c.args.self.now.pages) (v c.key_of.new.self.pages) (v c.find.new.self.pages) c.args.self.now.root c.key_of.new.self.root c.find.new.self.root stands c.args.kind c.args.line.now c.in-Ok.key
+    c.requires.one_line target.0 keyed (subst IsTrue (sym c.find.ensures.asked.counts.told) told_between) (c.in-Ok.ensures.asked.same told) c.key_of.ensures.root (c.in-Ok-Some-find.ensures.asked.same told_between) c.find.ensures.root
+    (c.in-Ok.ensures.key told gaz stands c.args.kind c.args.line.now target.1) in
+    let at_between = rw c.in-Ok-Some-find.field-0-is at c.in-Ok-Some-find.ensures.found told_between b.stands_between.pairs b.stands_between.tree b.recorded in
+    let at = at_same (v c.key_of.new.self.pages) (v c.find.new.self.pages) c.in-Ok.key b.stands_between.pairs c.in-Ok-Some-find.place (take c.in-Ok-Some-find.size c.find.new.buf) b.same_now at_between in
+    let first = c.key_of.ensures.asked.unchanged in
+    let second = c.find.ensures.asked.unchanged in
+    let third = (c.change.ensures.differ puts b.stands_now.tree.shallow).changed in
+    subst (λ l. (v c.change.new.self.pages).changed ≤ (v c.args.self.now.pages).changed + most_between (table_of c.args.kind) l c.args.line.now)
+    (sym (was_over gaz (v c.find.new.self.pages) c.find.new.self.root b.stands_now c.args.kind c.args.line.now c.in-Ok.key c.requires.one_line target.0 keyed b.over c.in-Ok-Some-find.place (take c.in-Ok-Some-find.size c.find.new.buf) at number earlier has found))
+    (omega (arith, first, second, third)))
+    c.change.ensures.idle
+
+pub returns-in-Ok-None-2-clause-differ : goal.returns-in-Ok-None-2-clause-differ
+returns-in-Ok-None-2-clause-differ g c =
+    map_ok c.come.result
+    (λ count told gaz stands number earlier has puts found.
+    let v = g.P.Pages.view in
+    let told_between : IsTrue (v c.key_of.new.self.pages).is_told = subst IsTrue (sym c.key_of.ensures.asked.counts.told) told in
+    let target = rw c.in-Ok-Some.field-0-is at c.in-Ok-Some.ensures in
+    let keyed = target_keyed c.args.kind c.args.line.now c.in-Ok-Some.target target.1 in
+    let b = behind gaz (v c.args.self.now.pages) (v c.key_of.new.self.pages) (v c.find.new.self.pages) c.args.self.now.root c.key_of.new.self.root c.find.new.self.root stands c.args.kind c.args.line.now c.in-Ok.key
+    c.requires.one_line target.0 keyed (subst IsTrue (sym c.find.ensures.asked.counts.told) told_between) (c.in-Ok.ensures.asked.same told) c.key_of.ensures.root (c.in-Ok-None-find.ensures.asked.same told_between) c.find.ensures.root
+    (c.in-Ok.ensures.key told gaz stands c.args.kind c.args.line.now target.1) in
+    let none = rw c.in-Ok-None-find.field-0-is at c.in-Ok-None-find.ensures.found told_between b.stands_between.pairs b.stands_between.tree b.recorded in
+    absurd (lacks_over gaz (v c.find.new.self.pages) c.find.new.self.root b.stands_now c.args.kind c.args.line.now c.in-Ok.key c.requires.one_line target.0 keyed b.over none number earlier has found))
     c.come.ensures.count
