@@ -24,7 +24,7 @@ use Rattle.gaz_rows.specs.declared.fault.StepFault.{StepFault}
 use Rattle.gaz_rows.specs.declared.fault.StepFault.TheVariants.{Malformed, Full, Failed, Damaged, Memory}
 use Rattle.gaz_rows.specs.declared.fault.AskFault.{AskFault}
 use Rattle.gaz_rows.specs.declared.fault.AskFault.TheVariants as ask
-use Rattle.gaz_rows.specs.Index.{Slots, SlotsDiffer, IsIndexed}
+use Rattle.gaz_rows.specs.Index.{Slots, SlotsDiffer, IsIndexed, line_key}
 use Rattle.gaz_rows.specs.Stands.{StandsForBut, AreUsedOnce, places_in, value_in}
 use Rattle.gaz_rows.specs.Laid.{IsLaid, ends_of}
 use Rattle.gaz_rows.specs.Found.{HasRecord}
@@ -39,7 +39,7 @@ use Rattle.gaz_rows.specs.Change.{HasCome, HasGone, HasReplaced}
 use Rattle.gaz_keys.specs.Lines.{more_keys}
 use Rattle.gaz_rows.proofs.PairsStands.{meets_line}
 use Rattle.gaz_rows.proofs.ReindexedSlots.{slot_kept, slot_new, slots_agree}
-use Rattle.gaz_rows.proofs.SteppedStores.{laid_here, left_here, full_here, place_there, was_keyed, was_counted, come_stands, go_stands, replace_stands, same_stands, none_stands, some_found, none_found, come_taken, change_taken}
+use Rattle.gaz_rows.proofs.SteppedStores.{laid_here, left_here, full_here, place_there, was_keyed, was_counted, come_stands, go_stands, replace_stands, same_stands, none_stands, some_found, none_found, come_taken, change_taken, was_key}
 
 -- a test that passed
 passed : (why : Reason) (b : Bool) (rest : List (Reason × Bool)) → first_failing ((why, b) ∷ rest) ≡ None → b ≡ true
@@ -226,6 +226,9 @@ module _ (gaz : Gazetteer) (v : PagesView) (root : Root) (stands : StandsForBut 
   was_over place was at number earlier keyed found =
       same_some earlier was (sym found ∙ ap (λ n. line_with (table_of kind) n gaz) (same_some number (numbers_of kind line has).0 (sym keyed ∙ (numbers_of kind line has).1))
       ∙ some_found gaz v root stands over.now kind line (numbers_of kind line has).0 key meets over.is place was at)
+
+  pub was_key_over : (place : ℕ) (was : List ℕ) → StandsAt v key stands.pairs place was → line_key stands.slots (table_of kind) was ≡ key
+  was_key_over = was_key gaz v root stands over.now kind line (numbers_of kind line has).0 key meets over.is
 
   -- Where none stands there it has none.
   pub lacks_over : lookup (key_of key) stands.pairs ≡ None → (number earlier : List ℕ) → key_in kind line ≡ Some number → line_with (table_of kind) number gaz ≡ Some earlier → ⊥

@@ -11,7 +11,7 @@ use Rattle.gaz_page.specs.declared.tree_root.Root.{Root}
 use Rattle.gaz_page.specs.Pages.{PagesView, SamePages}
 use Rattle.gaz_leaf.specs.Node.{Pair, key_of}
 use Rattle.gaz_tree.specs.Pairs.{lookup}
-use Rattle.gaz_heap.specs.Place.{record_at}
+use Rattle.gaz_heap.specs.Place.{record_at, is_chain}
 use Rattle.gaz_keys.specs.Lines.{IsKeyed, more_keys}
 use Rattle.gaz_rows.specs.declared.fault.StepFault.{StepFault}
 use Rattle.gaz_rows.specs.declared.fault.StepFault.TheVariants.{Malformed, Full, Failed, Damaged, Memory}
@@ -71,6 +71,17 @@ most_between table was line =
 abbrev pub ChangesBetween : Kind → List ℕ → PagesView → Root → PagesView → Type 0
 ChangesBetween kind line old root new = (gaz : Gazetteer) → IsStore gaz old root → (key was : List ℕ) → key_in kind line ≡ Some key → is_delete kind ≡ false
     → line_with (table_of kind) key gaz ≡ Some was → new.changed ≤ old.changed + most_between (table_of kind) was line
+
+-- A line that takes the place of another, and isn't longer, stands where that one stood, if that was no chain of pages.
+abbrev pub StaysThere : Kind → List ℕ → PagesView → Root → PagesView → Type 0
+StaysThere kind line old root new = (gaz : Gazetteer) (stands : IsStore gaz old root) (key was : List ℕ) → key_in kind line ≡ Some key → is_delete kind ≡ false
+    → line_with (table_of kind) key gaz ≡ Some was → (place : ℕ) → lookup (key_of (line_key stands.slots (table_of kind) was)) stands.pairs ≡ Some place
+    → (IsTrue (is_chain place) → ⊥) → length line ≤ length was → record_at new.page place ≡ Some line
+
+-- The same of pages that are laid with a line at the place.
+abbrev pub PutsThere : PagesView → Root → PagesView → ℕ → List ℕ → List ℕ → Type 0
+PutsThere old root new place was line = (pairs : List Pair) (places : List ℕ) → IsLaid old root pairs (root.heap ∷ []) places → Contains places place
+    → record_at old.page place ≡ Some was → (IsTrue (is_chain place) → ⊥) → length line ≤ length was → record_at new.page place ≡ Some line
 
 -- The table is full only where the line would be put there, and the root counts as many lines in it as it may hold.
 abbrev pub IsFullBy : Kind → Root → StepFault → Type 0

@@ -1,5 +1,9 @@
 use Rattle.std.proofs.Common.{arith, ◌≤◌, sym, ap, subst, ◌∙◌, ◌≡◌, ◌+◌, ◌<◌, []}
-use Rattle.std.specs.Prelude.{IsTrue, take}
+use Rattle.std.specs.Prelude.{IsTrue, take, true, false, Some, None, ℕ, length}
+use Rattle.gaz_heap.specs.Place.{record_at, is_chain}
+use Rattle.gaz_leaf.specs.Node.{key_of}
+use Rattle.gaz_tree.specs.Pairs.{lookup}
+use Rattle.gaz_rows.specs.Index.{line_key}
 use Rattle.gaz_page.specs.declared.tree_root.Root.{Root}
 use Rattle.gaz_plain.specs.Gazetteer.{limit_of, table_of}
 use Rattle.gaz_keys.specs.Lines.{more_keys}
@@ -9,7 +13,7 @@ use Rattle.gaz_rows.specs.Change.{HasCome}
 use Rattle.gaz_rows.specs.Stepping.{ComesRightly, most_between}
 use Rattle.gaz_rows.proofs.Working.{map_ok, all_ok}
 use Rattle.gaz_rows.proofs.ReindexedTaken.{is_malformed, is_comment}
-use Rattle.gaz_rows.proofs.SteppedOver.{short_line, ask_rightly, target_keyed, behind, at_same, come_over, come_rightly, change_rightly, none_over, laid_over, map_err, stands_same, record_here, come_full, change_full, ask_full, already_over, lacking_over, was_over, lacks_over, still, still_behind}
+use Rattle.gaz_rows.proofs.SteppedOver.{short_line, ask_rightly, target_keyed, behind, at_same, come_over, come_rightly, change_rightly, none_over, laid_over, map_err, stands_same, record_here, come_full, change_full, ask_full, already_over, lacking_over, was_over, was_key_over, lacks_over, there_over, still, still_behind}
 use Rattle.gaz_rows.proofs.store.RowStore.step.Goals as goal
 
 pub returns-in-Ok-None-clause-steps : goal.returns-in-Ok-None-clause-steps
@@ -230,4 +234,58 @@ returns-in-Ok-None-2-clause-differ g c =
     (c.in-Ok.ensures.key told gaz stands c.args.kind c.args.line.now target.1) in
     let none = rw c.in-Ok-None-find.field-0-is at c.in-Ok-None-find.ensures.found told_between b.stands_between.pairs b.stands_between.tree b.recorded in
     absurd (lacks_over gaz (v c.find.new.self.pages) c.find.new.self.root b.stands_now c.args.kind c.args.line.now c.in-Ok.key c.requires.one_line target.0 keyed b.over none number earlier has found))
+    c.come.ensures.count
+
+pub returns-in-Ok-None-clause-stays : goal.returns-in-Ok-None-clause-stays
+returns-in-Ok-None-clause-stays g c told gaz stands number was has puts found place stood chain short =
+    let none = rw c.in-Ok-None.field-0-is at c.in-Ok-None.ensures in
+    absurd (differ (sym none.1 ∙ has))
+  where
+    differ : None ≡ Some number → ⊥
+    differ same = cc
+
+pub returns-in-Ok-None-find-clause-stays : goal.returns-in-Ok-None-find-clause-stays
+returns-in-Ok-None-find-clause-stays g c told gaz stands number was has puts found place stood chain short =
+    absurd (differ (sym (sym c.is_delete.ensures ∙ c.if-is_delete.true) ∙ puts))
+  where
+    differ : true ≡ false → ⊥
+    differ same = cc
+
+pub returns-in-Ok-Some-find-clause-stays : goal.returns-in-Ok-Some-find-clause-stays
+returns-in-Ok-Some-find-clause-stays g c =
+    map_ok c.change.result
+    (λ puts_there told gaz stands number was has puts found place stood chain short.
+    let v = g.P.Pages.view in
+    let told_between : IsTrue (v c.key_of.new.self.pages).is_told = subst IsTrue (sym c.key_of.ensures.asked.counts.told) told in
+    let target = rw c.in-Ok-Some.field-0-is at c.in-Ok-Some.ensures in
+    let keyed = target_keyed c.args.kind c.args.line.now c.in-Ok-Some.target target.1 in
+    let b = behind gaz (v c.args.self.now.pages) (v c.key_of.new.self.pages) (v c.find.new.self.pages) c.args.self.now.root c.key_of.new.self.root c.find.new.self.root stands c.args.kind c.args.line.now c.in-Ok.key
+    c.requires.one_line target.0 keyed (subst IsTrue (sym c.find.ensures.asked.counts.told) told_between) (c.in-Ok.ensures.asked.same told) c.key_of.ensures.root (c.in-Ok-Some-find.ensures.asked.same told_between) c.find.ensures.root
+    (c.in-Ok.ensures.key told gaz stands c.args.kind c.args.line.now target.1) in
+    let at_between = rw c.in-Ok-Some-find.field-0-is at c.in-Ok-Some-find.ensures.found told_between b.stands_between.pairs b.stands_between.tree b.recorded in
+    let at = at_same (v c.key_of.new.self.pages) (v c.find.new.self.pages) c.in-Ok.key b.stands_between.pairs c.in-Ok-Some-find.place (take c.in-Ok-Some-find.size c.find.new.buf) b.same_now at_between in
+    let was_is = was_over gaz (v c.find.new.self.pages) c.find.new.self.root b.stands_now c.args.kind c.args.line.now c.in-Ok.key c.requires.one_line target.0 keyed b.over c.in-Ok-Some-find.place (take c.in-Ok-Some-find.size c.find.new.buf) at number was has found in
+    let same_key = ap (line_key stands.slots (table_of c.args.kind)) was_is ∙ was_key_over gaz (v c.find.new.self.pages) c.find.new.self.root b.stands_now c.args.kind c.args.line.now c.in-Ok.key c.requires.one_line target.0 keyed b.over c.in-Ok-Some-find.place (take c.in-Ok-Some-find.size c.find.new.buf) at in
+    let here = same_place place c.in-Ok-Some-find.place (sym stood ∙ ap (λ k. lookup (key_of k) stands.pairs) same_key ∙ at.at) in
+    subst (λ p. record_at (v c.change.new.self.pages).page p ≡ Some c.args.line.now) (sym here)
+    (puts_there b.told puts b.stands_now.pairs (places_in b.stands_now.pairs) (laid_over gaz (v c.find.new.self.pages) c.find.new.self.root b.stands_now c.args.kind c.args.line.now c.in-Ok.key c.requires.one_line target.0 keyed b.over) (there_over gaz (v c.find.new.self.pages) c.find.new.self.root b.stands_now c.args.kind c.args.line.now c.in-Ok.key c.requires.one_line target.0 keyed b.over c.in-Ok-Some-find.place at.at) at.record_is
+    (subst (λ p. IsTrue (is_chain p) → ⊥) here chain) (subst (λ l. length c.args.line.now ≤ length l) was_is short)))
+    c.change.ensures.stays
+  where
+    same_place : (a b : ℕ) → Some a ≡ Some b → a ≡ b
+    same_place a b same = cc
+
+pub returns-in-Ok-None-2-clause-stays : goal.returns-in-Ok-None-2-clause-stays
+returns-in-Ok-None-2-clause-stays g c =
+    map_ok c.come.result
+    (λ count told gaz stands number was has puts found place stood chain short.
+    let v = g.P.Pages.view in
+    let told_between : IsTrue (v c.key_of.new.self.pages).is_told = subst IsTrue (sym c.key_of.ensures.asked.counts.told) told in
+    let target = rw c.in-Ok-Some.field-0-is at c.in-Ok-Some.ensures in
+    let keyed = target_keyed c.args.kind c.args.line.now c.in-Ok-Some.target target.1 in
+    let b = behind gaz (v c.args.self.now.pages) (v c.key_of.new.self.pages) (v c.find.new.self.pages) c.args.self.now.root c.key_of.new.self.root c.find.new.self.root stands c.args.kind c.args.line.now c.in-Ok.key
+    c.requires.one_line target.0 keyed (subst IsTrue (sym c.find.ensures.asked.counts.told) told_between) (c.in-Ok.ensures.asked.same told) c.key_of.ensures.root (c.in-Ok-None-find.ensures.asked.same told_between) c.find.ensures.root
+    (c.in-Ok.ensures.key told gaz stands c.args.kind c.args.line.now target.1) in
+    let none = rw c.in-Ok-None-find.field-0-is at c.in-Ok-None-find.ensures.found told_between b.stands_between.pairs b.stands_between.tree b.recorded in
+    absurd (lacks_over gaz (v c.find.new.self.pages) c.find.new.self.root b.stands_now c.args.kind c.args.line.now c.in-Ok.key c.requires.one_line target.0 keyed b.over none number was has found))
     c.come.ensures.count
