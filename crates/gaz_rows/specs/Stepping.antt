@@ -79,8 +79,8 @@ StaysThere kind line old root new = (gaz : Gazetteer) (stands : IsStore gaz old 
     → (IsTrue (is_chain place) → ⊥) → length line ≤ length was → record_at new.page place ≡ Some line
 
 -- The same of pages that are laid with a line at the place.
-abbrev pub PutsThere : PagesView → Root → PagesView → ℕ → List ℕ → List ℕ → Type 0
-PutsThere old root new place was line = (pairs : List Pair) (places : List ℕ) → IsLaid old root pairs (root.heap ∷ []) places → Contains places place
+abbrev pub PutsInItsPlace : PagesView → Root → PagesView → ℕ → List ℕ → List ℕ → Type 0
+PutsInItsPlace old root new place was line = (pairs : List Pair) (places : List ℕ) → IsLaid old root pairs (root.heap ∷ []) places → Contains places place
     → record_at old.page place ≡ Some was → (IsTrue (is_chain place) → ⊥) → length line ≤ length was → record_at new.page place ≡ Some line
 
 -- The table is full only where the line would be put there, and the root counts as many lines in it as it may hold.

@@ -12,7 +12,7 @@ ghost use Rattle.gaz_num.specs.Check.{reason_against, key_in};
 ghost use Rattle.gaz_num.specs.declared.words.Kind.{Kind};
 ghost use Rattle.gaz_rows.specs.Store.{HasAsked, IsSoundOver, IsStore};
 ghost use Rattle.gaz_rows.specs.Target.{IsTargetOf};
-ghost use Rattle.gaz_rows.specs.Stepping.{IsKeyOver, IsChecked, HasStepped, HasSteppedTo, FailsRightly, StandsAt, HasNewCounts, HasCount, ComesRightly, ChangesRightly, IsRefused, IsFullBy, IsIdle, StandsStill, ChangesBetween, most_between, StaysThere, PutsThere, StepCosts};
+ghost use Rattle.gaz_rows.specs.Stepping.{IsKeyOver, IsChecked, HasStepped, HasSteppedTo, FailsRightly, StandsAt, HasNewCounts, HasCount, ComesRightly, ChangesRightly, IsRefused, IsFullBy, IsIdle, StandsStill, ChangesBetween, most_between, StaysThere, PutsInItsPlace, StepCosts};
 
 use crate::RowStore;
 use crate::counts::{count_of, limit_of, set_count};
@@ -163,7 +163,7 @@ impl<P: Pages> RowStore<P> {
             → HasSteppedTo gaz kind line.now (P.view self.new.pages) self.new.root) }
         ensures idle { OnOk result (IsTrue (P.view self.old.pages).is_told → line_put kind line.now ≡ Some was.now → StandsStill (P.view self.old.pages) self.old.root (P.view self.new.pages) self.new.root) }
         ensures differ { is_delete kind ≡ false → self.old.root.height ≤ 6 → ChangesFew (most_between (table_of kind) was.now line.now) (P.view self.old.pages) (P.view self.new.pages) self.old.root self.new.root }
-        ensures stays { OnOk result (IsTrue (P.view self.old.pages).is_told → is_delete kind ≡ false → PutsThere (P.view self.old.pages) self.old.root (P.view self.new.pages) place was.now line.now) }
+        ensures stays { OnOk result (IsTrue (P.view self.old.pages).is_told → is_delete kind ≡ false → PutsInItsPlace (P.view self.old.pages) self.old.root (P.view self.new.pages) place was.now line.now) }
         ensures fault { IfErr result (ChangesRightly (table_of kind) self.old.root (P.view self.old.pages) place was.now) }
         ensures root { HasNewCounts self.old.root self.new.root }
         ensures costs { StepCosts 320 (P.view self.old.pages) self.old.root (P.view self.new.pages) self.new.root result }
