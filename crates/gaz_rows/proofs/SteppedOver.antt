@@ -1,6 +1,6 @@
 -- A step over pages that stand for a gazetteer, behind questions that left them as they were.
 use Rattle.std.proofs.Common.{◌≡◌, ◌<◌, ◌≤◌, ◌+◌, ◌-◌, ℕ, List, [], ◌∷◌, length, refl, sym, ◌∙◌, ap, subst, true, false, Bool, Option, Some, None, Ok, Err}
-use Rattle.std.specs.Prelude.{Result, IfOk, IfErr, Contains, IsSome, is_some, IsTrue, IsSome, nat_le, if◌then◌else◌}
+use Rattle.std.specs.Prelude.{Result, IfErr, Contains, IsSome, is_some, IsTrue, IsSome, nat_le, if◌then◌else◌}
 use Rattle.std.proofs.lemmas.Bool.{leb-true}
 use Rattle.std.proofs.lemmas.Slice.Eq.{bytes_eq-Decides}
 use Rattle.gaz_num.specs.declared.words.Kind.{Kind}
@@ -24,7 +24,7 @@ use Rattle.gaz_rows.specs.declared.fault.StepFault.{StepFault}
 use Rattle.gaz_rows.specs.declared.fault.StepFault.TheVariants.{Malformed, Full, Failed, Damaged, Memory}
 use Rattle.gaz_rows.specs.declared.fault.AskFault.{AskFault}
 use Rattle.gaz_rows.specs.declared.fault.AskFault.TheVariants as ask
-use Rattle.gaz_rows.specs.Index.{Slots, SlotsDiffer, IsIndexed}
+use Rattle.gaz_rows.specs.Index.{Slots, SlotsDiffer, IsIndexed, line_key}
 use Rattle.gaz_rows.specs.Stands.{StandsForBut, AreUsedOnce, places_in, value_in}
 use Rattle.gaz_rows.specs.Laid.{IsLaid, ends_of}
 use Rattle.gaz_rows.specs.Found.{HasRecord}
@@ -34,12 +34,12 @@ use Rattle.gaz_rows.specs.declared.target.Target.{Target}
 use Rattle.gaz_rows.specs.declared.target.Target.TheVariants.{Key, Code}
 use Rattle.gaz_rows.specs.Target.{IsTargetOf}
 use Rattle.gaz_rows.specs.Steps.{MeetsLine, IsSlotFor, slot_with, IsSlotOf, counted, recounted, line_put}
-use Rattle.gaz_rows.specs.Stepping.{StandsAt, IsKeyOver, ComesRightly, ChangesRightly, HasSteppedTo, IsFullBy, IsOfPages, StandsStill, HasAlready}
+use Rattle.gaz_rows.specs.Stepping.{StandsAt, IsKeyOver, ComesRightly, ChangesRightly, HasSteppedTo, IsFullBy, StandsStill, HasAlready}
 use Rattle.gaz_rows.specs.Change.{HasCome, HasGone, HasReplaced}
 use Rattle.gaz_keys.specs.Lines.{more_keys}
 use Rattle.gaz_rows.proofs.PairsStands.{meets_line}
 use Rattle.gaz_rows.proofs.ReindexedSlots.{slot_kept, slot_new, slots_agree}
-use Rattle.gaz_rows.proofs.SteppedStores.{laid_here, left_here, full_here, place_there, was_keyed, was_counted, come_stands, go_stands, replace_stands, same_stands, none_stands, some_found, none_found, come_taken, change_taken}
+use Rattle.gaz_rows.proofs.SteppedStores.{laid_here, left_here, full_here, place_there, was_keyed, was_counted, come_stands, go_stands, replace_stands, same_stands, none_stands, some_found, none_found, come_taken, change_taken, was_key}
 
 -- a test that passed
 passed : (why : Reason) (b : Bool) (rest : List (Reason × Bool)) → first_failing ((why, b) ∷ rest) ≡ None → b ≡ true
@@ -58,6 +58,9 @@ numbers_of kind line has = by (key_in kind line) refl has
     by None is has = absurd (cc)
     by (Some numbers) is has = (numbers, is)
 
+same_some : (a b : List ℕ) → Some a ≡ Some b → a ≡ b
+same_some a b same = cc
+
 -- A line that isn't one that only takes out is put.
 pub put_is_some : (kind : Kind) (line : List ℕ) → is_delete kind ≡ false → line_put kind line ≡ None → ⊥
 put_is_some kind line puts is = differ (sym (ap (λ (b : Bool). if b then None else Some line) puts) ∙ is)
@@ -74,10 +77,7 @@ put_is_none kind line was deletes is = differ (sym (ap (λ (b : Bool). if b then
 
 -- What is put is the line.
 pub put_is_line : (kind : Kind) (line was : List ℕ) → is_delete kind ≡ false → line_put kind line ≡ Some was → was ≡ line
-put_is_line kind line was puts is = one (sym (ap (λ (b : Bool). if b then None else Some line) puts) ∙ is)
-  where
-    one : Some line ≡ Some was → was ≡ line
-    one same = cc
+put_is_line kind line was puts is = same_some was line (sym is ∙ ap (λ (b : Bool). if b then None else Some line) puts)
 
 -- ---- the key of a code
 
@@ -221,6 +221,24 @@ module _ (gaz : Gazetteer) (v : PagesView) (root : Root) (stands : StandsForBut 
   lacking_over puts none has_already =
       put_is_some kind line puts (sym (has_already (numbers_of kind line has).0 (numbers_of kind line has).1) ∙ none_found gaz v root stands over.now kind line (numbers_of kind line has).0 key meets over.is none)
 
+  -- The line that its table has is the one that stands there.
+  pub was_over : (place : ℕ) (was : List ℕ) → StandsAt v key stands.pairs place was → (number earlier : List ℕ) → key_in kind line ≡ Some number → line_with (table_of kind) number gaz ≡ Some earlier → earlier ≡ was
+  was_over place was at number earlier keyed found =
+      same_some earlier was (sym found ∙ ap (λ n. line_with (table_of kind) n gaz) (same_some number (numbers_of kind line has).0 (sym keyed ∙ (numbers_of kind line has).1))
+      ∙ some_found gaz v root stands over.now kind line (numbers_of kind line has).0 key meets over.is place was at)
+
+  pub was_key_over : (place : ℕ) (was : List ℕ) → StandsAt v key stands.pairs place was → line_key stands.slots (table_of kind) was ≡ key
+  was_key_over = was_key gaz v root stands over.now kind line (numbers_of kind line has).0 key meets over.is
+
+  -- Where none stands there it has none.
+  pub lacks_over : lookup (key_of key) stands.pairs ≡ None → (number earlier : List ℕ) → key_in kind line ≡ Some number → line_with (table_of kind) number gaz ≡ Some earlier → ⊥
+  lacks_over none number earlier keyed found =
+      differ (sym (none_found gaz v root stands over.now kind line (numbers_of kind line has).0 key meets over.is none)
+      ∙ ap (λ n. line_with (table_of kind) n gaz) (same_some (numbers_of kind line has).0 number (sym (numbers_of kind line has).1 ∙ keyed)) ∙ found)
+    where
+      differ : None ≡ Some earlier → ⊥
+      differ same = cc
+
 -- What a line speaks of has a key in its table.
 pub target_keyed : (kind : Kind) (line : List ℕ) (target : Target) → IsTargetOf kind line (Some target) → IsSome (key_in kind line)
 target_keyed kind line (Key key) is = is.0
@@ -251,11 +269,6 @@ behind gaz v between now root root_between root_now stands kind line key one acc
       recorded = record_here gaz between root_between stands_between kind line key one accepted has over;
     }
 
--- what follows of the value of an answer that is Ok
-pub map_value : {T F : Type 0} {P Q : T → Type 0} (result : Result T F) → ((value : T) → P value → Q value) → IfOk result P → IfOk result Q
-map_value (Ok value) f p = f value p
-map_value (Err fault) f p = tt
-
 -- what follows where an answer is a fault
 pub map_err : {T F : Type 0} {P Q : F → Type 0} (result : Result T F) → ((fault : F) → P fault → Q fault) → IfErr result P → IfErr result Q
 map_err (Ok value) f p = tt
@@ -273,12 +286,12 @@ come_full kind root now v Failed same puts right = tt
 come_full kind root now v Memory same puts right = tt
 
 -- That of one that goes or is replaced never tells it.
-pub pages_full : (kind : Kind) (root : Root) (fault : StepFault) → IsOfPages fault → IsFullBy kind root fault
-pages_full kind root (Full other) why = absurd why
-pages_full kind root (Malformed reason) why = tt
-pages_full kind root (Damaged page) why = tt
-pages_full kind root Failed why = tt
-pages_full kind root Memory why = tt
+pub change_full : (kind : Kind) (root now : Root) (v : PagesView) (place : ℕ) (was : List ℕ) (fault : StepFault) → ChangesRightly (table_of kind) now v place was fault → IsFullBy kind root fault
+change_full kind root now v place was (Full other) right = absurd right
+change_full kind root now v place was (Malformed reason) right = tt
+change_full kind root now v place was (Damaged page) right = tt
+change_full kind root now v place was Failed right = tt
+change_full kind root now v place was Memory right = tt
 
 -- Nor does that of a question.
 pub ask_full : (kind : Kind) (root : Root) (cause : AskFault) (result : StepFault) → result ≡ step_fault_by cause → IsFullBy kind root result

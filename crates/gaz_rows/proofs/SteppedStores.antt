@@ -18,7 +18,7 @@ use Rattle.gaz_keys.specs.Parts.{has_place, tag_of}
 use Rattle.gaz_keys.specs.Lines.{more_keys, IsKeyed}
 use Rattle.gaz_keys.proofs.Tags.{contained}
 use Rattle.gaz_rows.specs.Index.{Slots, line_key}
-use Rattle.gaz_rows.specs.Stands.{StandsForBut, places_in, counts_of}
+use Rattle.gaz_rows.specs.Stands.{StandsForBut, places_in, counts_of, value_in}
 use Rattle.gaz_rows.specs.Laid.{IsLaid, ends_of, all_but}
 use Rattle.gaz_rows.specs.Work.{put_zeros, without_all, missing_in}
 use Rattle.gaz_rows.specs.Steps.{MeetsLine, RecordsLeft, pair_at, more_by, line_put, old_by, other_places, but_old, with_new, pairs_with, counted, recounted, one_if}
@@ -31,7 +31,8 @@ use Rattle.gaz_rows.proofs.LaidKept.{after_order}
 use Rattle.gaz_rows.proofs.LaidSlots.{among_all, among_rest}
 use Rattle.gaz_rows.proofs.LaidStands.{are_laid}
 use Rattle.gaz_rows.proofs.Pairs.{missing_had}
-use Rattle.gaz_rows.proofs.PairsIndexed.{old_is, places_are, put_pairs, put_stays, deleted_pairs, step_key}
+use Rattle.gaz_rows.proofs.PairsIndexed.{old_is, places_are, put_pairs, put_stays, deleted_pairs, step_key, same_place_key}
+use Rattle.gaz_rows.proofs.Reindexed.{same_line_key}
 use Rattle.gaz_rows.proofs.PairsPlaces.{at_place, tag_key}
 use Rattle.gaz_rows.proofs.PairsStands.{left_stands, nothing_left}
 use Rattle.gaz_rows.proofs.PairsStepped.{place_tag}
@@ -183,6 +184,12 @@ module _ (gaz : Gazetteer) (v : PagesView) (root : Root) (stands : StandsForBut 
 
   was_line : (place : ℕ) (was : List ℕ) → StandsAt v key stands.pairs place was → Contains (lines_in gaz table) was
   was_line place was at = (find_has (has_key table numbers) (lines_in gaz table) was (some_found place was at)).0
+
+  -- The key is that of the line that stands there.
+  pub was_key : (place : ℕ) (was : List ℕ) → StandsAt v key stands.pairs place was → line_key stands.slots table was ≡ key
+  was_key place was at =
+      sym (same_line_key stands.slots now gaz (value_in [] stands.pairs) bytes meets.same_slots table was (was_line place was at))
+      ∙ same_place_key stands.slots now gaz kind line numbers stands.pairs bytes meets was (some_found place was at) ∙ is
 
   pub was_keyed : (place : ℕ) (was : List ℕ) → StandsAt v key stands.pairs place was → IsKeyed table was
   was_keyed place was at = keyed table was (All-contains (IsLine (kind_in table)) (lines_in gaz table) was (meets.is_gazetteer.tables table).each (was_line place was at))

@@ -14,7 +14,7 @@ use Rattle.gaz_tree.specs.Remove.{Returns}
 use Rattle.gaz_tree.specs.Stands.{Stands, OfTree, PutDamage, IsWith, IsWithout}
 use Rattle.gaz_tree.proofs.Lists.{length-put_most}
 use Rattle.gaz_rows.specs.Laid.{IsLaid, LaidBy, HasRoom, tree_in}
-use Rattle.gaz_rows.specs.Work.{TurnsPairs, IsSoundWith, put_zeros, without_all, missing_in}
+use Rattle.gaz_rows.specs.Work.{TurnsPairs, IsSoundWith, put_zeros, without_all, missing_in, ChangesFew}
 use Rattle.gaz_rows.proofs.LaidKeys.{after_key_put, after_key_removed}
 
 -- the tree of a root, by its fields
@@ -174,3 +174,26 @@ module _ (old new : PagesView) (root now : Root) (others keys : List (List ℕ))
   pub first_sound : (T U : Type 0) (fault : PageFault) → IsSoundWith {T = T} 7 1 old root (Err fault) → IsSoundWith {T = U} (7 * length keys) (length keys) old root (Err fault)
   first_sound T U fault sound pairs kept places laid room few =
       sound pairs kept places laid (less_room (7 * length keys) 7 old (omega (arith, longer)) room) (omega (arith, longer, few))
+
+-- ---- how many pages are changed for the keys that the others lack
+
+pub few_past : (old new : PagesView) (root now : Root) (others keys : List (List ℕ)) (key : List ℕ) (rest : List (List ℕ)) → keys ≡ key ∷ rest → list_any (bytes_eq key) others ≡ true
+    → ChangesFew (20 * length (missing_in others rest)) old new root now → ChangesFew (20 * length (missing_in others keys)) old new root now
+few_past old new root now others keys key rest is met few =
+    subst (λ ks. ChangesFew (20 * length ks) old new root now) (sym (missing_met others keys key rest is met)) few
+
+pub few_on : (old mid new : PagesView) (root between now : Root) (others keys : List (List ℕ)) (key : List ℕ) (rest : List (List ℕ)) → keys ≡ key ∷ rest → list_any (bytes_eq key) others ≡ false
+    → ChangesFew 20 old mid root between → ChangesFew (20 * length (missing_in others rest)) mid new between now → ChangesFew (20 * length (missing_in others keys)) old new root now
+few_on old mid new root between now others keys key rest is new_one first later =
+    let one = first.changed in
+    let more = later.changed in
+    subst (λ ks. ChangesFew (20 * length ks) old new root now) (sym (missing_new others keys key rest is new_one)) (record { changed = omega (arith, one, more); low = later.low })
+
+pub few_first : (old mid : PagesView) (root between : Root) (others keys : List (List ℕ)) (key : List ℕ) (rest : List (List ℕ)) → keys ≡ key ∷ rest → list_any (bytes_eq key) others ≡ false
+    → ChangesFew 20 old mid root between → ChangesFew (20 * length (missing_in others keys)) old mid root between
+few_first old mid root between others keys key rest is new_one first =
+    let one = first.changed in
+    subst (λ ks. ChangesFew (20 * length ks) old mid root between) (sym (missing_new others keys key rest is new_one)) (record { changed = omega (arith, one); low = first.low })
+
+pub few_none : (v : PagesView) (root : Root) (others keys : List (List ℕ)) → root.height ≤ 6 → ChangesFew (20 * length (missing_in others keys)) v v root root
+few_none v root others keys low = record { changed = omega arith; low = low }

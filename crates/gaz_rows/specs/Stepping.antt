@@ -1,5 +1,5 @@
 -- What a step promises, and its parts for a line that comes, goes, or takes the place of another.
-use Rattle.std.specs.Prelude.{◌≡◌, ◌≤◌, ◌<◌, ℕ, Bool, false, List, [], ◌∷◌, take, Option, Some, None, Result, Ok, Err, Contains, IsTrue}
+use Rattle.std.specs.Prelude.{◌≡◌, ◌≤◌, ◌<◌, ◌+◌, ◌*◌, ℕ, Bool, false, List, [], ◌∷◌, length, take, Option, Some, None, Result, Ok, Err, Contains, IsTrue}
 use Rattle.gaz_num.specs.declared.words.Kind.{Kind}
 use Rattle.gaz_num.specs.declared.words.Reason.{Reason}
 use Rattle.gaz_num.specs.declared.words.Table.{Table}
@@ -11,15 +11,15 @@ use Rattle.gaz_page.specs.declared.tree_root.Root.{Root}
 use Rattle.gaz_page.specs.Pages.{PagesView, SamePages}
 use Rattle.gaz_leaf.specs.Node.{Pair, key_of}
 use Rattle.gaz_tree.specs.Pairs.{lookup}
-use Rattle.gaz_heap.specs.Place.{record_at}
-use Rattle.gaz_keys.specs.Lines.{IsKeyed}
+use Rattle.gaz_heap.specs.Place.{record_at, is_chain}
+use Rattle.gaz_keys.specs.Lines.{IsKeyed, more_keys}
 use Rattle.gaz_rows.specs.declared.fault.StepFault.{StepFault}
 use Rattle.gaz_rows.specs.declared.fault.StepFault.TheVariants.{Malformed, Full, Failed, Damaged, Memory}
 use Rattle.gaz_rows.specs.Laid.{IsLaid}
 use Rattle.gaz_rows.specs.Index.{Slots, line_key}
 use Rattle.gaz_rows.specs.Steps.{SameSlots, IsSlotOf, counted, recounted, line_put}
 use Rattle.gaz_rows.specs.Store.{IsStore, IsStepFaultOf, StepFailsOnce}
-use Rattle.gaz_rows.specs.Work.{ChangesFew}
+use Rattle.gaz_rows.specs.Work.{ChangesFew, missing_in}
 use Rattle.gaz_rows.specs.Change.{HasLeft}
 
 -- The line is refused by its check, with this reason, exactly where there is one.
@@ -60,6 +60,28 @@ HasAlready gaz kind line = (key : List ℕ) → key_in kind line ≡ Some key �
 -- A line that changes nothing in the gazetteer for which the pages stand changes no page.
 abbrev pub IsIdle : Kind → List ℕ → PagesView → Root → PagesView → Root → Type 0
 IsIdle kind line old root new now = (gaz : Gazetteer) → IsStore gaz old root → HasAlready gaz kind line → StandsStill old root new now
+
+-- how many pages change at most where a line takes the place of another: those of its record, of its key, and of the other keys that the two
+-- don't share
+abbrev pub most_between : Table → List ℕ → List ℕ → ℕ
+most_between table was line =
+    75 + 20 * (length (missing_in (more_keys table line) (more_keys table was)) + length (missing_in (more_keys table was) (more_keys table line)))
+
+-- A line that takes the place of another changes so few pages.
+abbrev pub ChangesBetween : Kind → List ℕ → PagesView → Root → PagesView → Type 0
+ChangesBetween kind line old root new = (gaz : Gazetteer) → IsStore gaz old root → (key was : List ℕ) → key_in kind line ≡ Some key → is_delete kind ≡ false
+    → line_with (table_of kind) key gaz ≡ Some was → new.changed ≤ old.changed + most_between (table_of kind) was line
+
+-- A line that takes the place of another, and isn't longer, stands where that one stood, if that was no chain of pages.
+abbrev pub StaysThere : Kind → List ℕ → PagesView → Root → PagesView → Type 0
+StaysThere kind line old root new = (gaz : Gazetteer) (stands : IsStore gaz old root) (key was : List ℕ) → key_in kind line ≡ Some key → is_delete kind ≡ false
+    → line_with (table_of kind) key gaz ≡ Some was → (place : ℕ) → lookup (key_of (line_key stands.slots (table_of kind) was)) stands.pairs ≡ Some place
+    → (IsTrue (is_chain place) → ⊥) → length line ≤ length was → record_at new.page place ≡ Some line
+
+-- The same of pages that are laid with a line at the place.
+abbrev pub PutsInItsPlace : PagesView → Root → PagesView → ℕ → List ℕ → List ℕ → Type 0
+PutsInItsPlace old root new place was line = (pairs : List Pair) (places : List ℕ) → IsLaid old root pairs (root.heap ∷ []) places → Contains places place
+    → record_at old.page place ≡ Some was → (IsTrue (is_chain place) → ⊥) → length line ≤ length was → record_at new.page place ≡ Some line
 
 -- The table is full only where the line would be put there, and the root counts as many lines in it as it may hold.
 abbrev pub IsFullBy : Kind → Root → StepFault → Type 0
@@ -122,9 +144,3 @@ pub record IsKeyOver (gaz : Gazetteer) (slots : Slots) (kind : Kind) (line key :
   pub same : SameSlots gaz slots now
   pub slot : table_of kind ≡ Codes → IsSlotOf now gaz (column 1 line)
   pub is : line_key now (table_of kind) line ≡ key
-
--- The fault is one of the pages or of memory, and no refusal.
-abbrev pub IsOfPages : StepFault → Type 0
-IsOfPages (Malformed reason) = ⊥
-IsOfPages (Full table) = ⊥
-IsOfPages other = Unit

@@ -1,9 +1,9 @@
 //! What a step changes: a line comes, goes, or takes the place of another.
-ghost use Rattle.std.specs.Prelude.{◌≡◌, ◌≤◌, ℕ, List, [], ◌∷◌, false, length, IsTrue, IfErr, OnOk, Contains};
+ghost use Rattle.std.specs.Prelude.{◌≡◌, ◌≤◌, ◌+◌, ◌*◌, ℕ, List, [], ◌∷◌, false, length, IsTrue, IfErr, OnOk, Contains};
 ghost use Rattle.gaz_page.specs.Pages.{HasPageCause, NotDamaged};
 ghost use Rattle.gaz_leaf.specs.Node.{Pair};
 ghost use Rattle.gaz_rows.specs.Laid.{IsLaid};
-ghost use Rattle.gaz_rows.specs.Work.{GoesOn, ChangesFew};
+ghost use Rattle.gaz_rows.specs.Work.{GoesOn, ChangesFew, missing_in};
 ghost use Rattle.gaz_rows.specs.Change.{HasCome, HasGone, HasReplaced, HasNewPages, HasLeft};
 
 use crate::RowStore;
@@ -94,6 +94,7 @@ impl<P: Pages> RowStore<P> {
         ensures root { HasNewPages self.old.root self.new.root }
         ensures goes_on { GoesOn (P.view self.old.pages) (P.view self.new.pages) }
         ensures few { self.old.root.height ≤ 6 → ChangesFew 320 (P.view self.old.pages) (P.view self.new.pages) self.old.root self.new.root }
+        ensures differ { self.old.root.height ≤ 6 → ChangesFew (75 + 20 * (length (missing_in more.now was.now) + length (missing_in was.now more.now))) (P.view self.old.pages) (P.view self.new.pages) self.old.root self.new.root }
         ensures cause { HasPageCause (P.view self.old.pages) (P.view self.new.pages) result }
         ensures keeps { P.keeps self.old.pages self.new.pages }
     {

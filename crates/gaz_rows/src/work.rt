@@ -77,6 +77,7 @@ impl<P: Pages> RowStore<P> {
         ensures root { HasNewTree self.old.root self.new.root }
         ensures goes_on { GoesOn (P.view self.old.pages) (P.view self.new.pages) }
         ensures few { self.old.root.height ≤ 6 → ChangesFew (20 * length keys.now) (P.view self.old.pages) (P.view self.new.pages) self.old.root self.new.root }
+        ensures differ { self.old.root.height ≤ 6 → ChangesFew (20 * length (missing_in others.now keys.now)) (P.view self.old.pages) (P.view self.new.pages) self.old.root self.new.root }
         ensures cause { HasPageCause (P.view self.old.pages) (P.view self.new.pages) result }
         ensures keeps { P.keeps self.old.pages self.new.pages }
     {
@@ -105,6 +106,7 @@ impl<P: Pages> RowStore<P> {
         ensures root { HasNewTree self.old.root self.new.root }
         ensures goes_on { GoesOn (P.view self.old.pages) (P.view self.new.pages) }
         ensures few { self.old.root.height ≤ 6 → ChangesFew (20 * length keys.now) (P.view self.old.pages) (P.view self.new.pages) self.old.root self.new.root }
+        ensures differ { self.old.root.height ≤ 6 → ChangesFew (20 * length (missing_in others.now keys.now)) (P.view self.old.pages) (P.view self.new.pages) self.old.root self.new.root }
         ensures cause { HasPageCause (P.view self.old.pages) (P.view self.new.pages) result }
         ensures keeps { P.keeps self.old.pages self.new.pages }
     {

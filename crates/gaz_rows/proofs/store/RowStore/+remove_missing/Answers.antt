@@ -1,6 +1,6 @@
 use Rattle.std.proofs.Common.{sym, subst, ◌∙◌}
 use Rattle.std.specs.Prelude.{IsTrue}
-use Rattle.gaz_rows.proofs.Working.{map_ok, gone_on, gone_past, gone_sound}
+use Rattle.gaz_rows.proofs.Working.{few_past, few_on, few_first, few_none, map_ok, gone_on, gone_past, gone_sound}
 use Rattle.gaz_rows.proofs.store.RowStore.+remove_missing.Goals as goal
 
 pub returns-then-is_among-clause-turns : goal.returns-then-is_among-clause-turns
@@ -26,3 +26,19 @@ returns-in-Ok-clause-damaged g t c told =
     gone_sound (v c.args.self.now.pages) (v c.remove_key.new.self.pages) (v c.remove_missing-in-Ok.new.self.pages) c.args.self.now.root c.remove_key.new.self.root c.remove_missing-in-Ok.new.self.root
     c.args.others.now c.args.keys.now c.in-Some.key.now c.in-Some.rest.now c.in-Some.ensures.cases.0 c.remove_missing-in-Ok.result (c.in-Ok.ensures.turns told)
     (c.remove_missing-in-Ok.ensures.damaged (subst IsTrue (sym c.remove_key.ensures.goes_on.told) told))
+
+pub returns-then-is_among-clause-differ : goal.returns-then-is_among-clause-differ
+returns-then-is_among-clause-differ g t c low =
+    few_past (g.P.Pages.view c.args.self.now.pages) (g.P.Pages.view c.remove_missing.new.self.pages) c.args.self.now.root c.remove_missing.new.self.root c.args.others.now c.args.keys.now
+    c.in-Some.key.now c.in-Some.rest.now c.in-Some.ensures.cases.0 (sym c.is_among.ensures ∙ c.if-is_among.true) (c.remove_missing.ensures.differ low)
+
+pub returns-in-Ok-clause-differ : goal.returns-in-Ok-clause-differ
+returns-in-Ok-clause-differ g t c low =
+    let first = c.remove_key.ensures.few low in
+    few_on (g.P.Pages.view c.args.self.now.pages) (g.P.Pages.view c.remove_key.new.self.pages) (g.P.Pages.view c.remove_missing-in-Ok.new.self.pages) c.args.self.now.root c.remove_key.new.self.root c.remove_missing-in-Ok.new.self.root
+    c.args.others.now c.args.keys.now c.in-Some.key.now c.in-Some.rest.now c.in-Some.ensures.cases.0 (sym c.is_among.ensures ∙ c.if-is_among.false) first (c.remove_missing-in-Ok.ensures.differ first.low)
+
+pub returns-in-Err-clause-differ : goal.returns-in-Err-clause-differ
+returns-in-Err-clause-differ g t c low =
+    few_first (g.P.Pages.view c.args.self.now.pages) (g.P.Pages.view c.remove_key.new.self.pages) c.args.self.now.root c.remove_key.new.self.root
+    c.args.others.now c.args.keys.now c.in-Some.key.now c.in-Some.rest.now c.in-Some.ensures.cases.0 (sym c.is_among.ensures ∙ c.if-is_among.false) (c.remove_key.ensures.few low)

@@ -1,9 +1,12 @@
-use Rattle.std.proofs.Common.{sym, ap, subst, ◌∙◌, ◌-◌, ◌≡◌, true, false}
+use Rattle.std.proofs.Common.{refl, sym, ap, subst, ◌∙◌, ◌-◌, ◌≡◌, true, false}
 use Rattle.gaz_page.specs.declared.tree_root.Root.{Root}
 use Rattle.gaz_keys.specs.Lines.{more_keys}
+use Rattle.std.specs.Prelude.{Some}
+use Rattle.gaz_heap.specs.Place.{record_at}
 use Rattle.gaz_rows.specs.Stands.{places_in}
 use Rattle.gaz_rows.specs.Steps.{counted, recounted}
-use Rattle.gaz_rows.specs.Stepping.{StandsAt}
+use Rattle.gaz_rows.specs.Work.{ChangesFew}
+use Rattle.gaz_rows.specs.Stepping.{StandsAt, most_between}
 use Rattle.gaz_rows.specs.Change.{HasGone, HasReplaced}
 use Rattle.std.proofs.lemmas.Slice.Eq.{bytes_eq-Decides}
 use Rattle.gaz_rows.proofs.Working.{map_ok, both_ok}
@@ -70,3 +73,33 @@ returns-clause-idle g c =
   where
     differ : true ≡ false → ⊥
     differ same = cc
+
+pub returns-then-is_delete-clause-differ : goal.returns-then-is_delete-clause-differ
+returns-then-is_delete-clause-differ g c puts low = absurd (differ (sym (sym c.is_delete.ensures ∙ c.if-is_delete.true) ∙ puts))
+  where
+    differ : true ≡ false → ⊥
+    differ same = cc
+
+pub returns-clause-differ : goal.returns-clause-differ
+returns-clause-differ g c puts low =
+    subst (λ t. ChangesFew (most_between t c.args.was.now c.args.line.now) (g.P.Pages.view c.args.self.now.pages) (g.P.Pages.view c.replace.new.self.pages) c.args.self.now.root c.replace.new.self.root) c.table_of-2.ensures
+    (c.replace.ensures.differ low)
+
+pub returns-then-is_delete-clause-stays : goal.returns-then-is_delete-clause-stays
+returns-then-is_delete-clause-stays g c =
+    map_ok c.go.result (λ count told puts. absurd (differ (sym (sym c.is_delete.ensures ∙ c.if-is_delete.true) ∙ puts))) c.go.ensures.count
+  where
+    differ : true ≡ false → ⊥
+    differ same = cc
+
+pub returns-then-eq-clause-stays : goal.returns-then-eq-clause-stays
+returns-then-eq-clause-stays g c told puts pairs places laid there at chain short =
+    at ∙ ap (λ l. Some l) ((bytes_eq-Decides c.args.was.now c.args.line.now).0 (sym c.eq.ensures ∙ c.if-eq.true))
+
+pub returns-clause-stays : goal.returns-clause-stays
+returns-clause-stays g c =
+    map_ok c.replace.result
+    (λ replaced told puts pairs places laid there at chain short.
+    let r = replaced told pairs places laid there in
+    subst (λ p. record_at (g.P.Pages.view c.replace.new.self.pages).page p ≡ Some c.args.line.now) (r.stays c.args.was.now at chain short) (r.changed.left.there c.args.line.now refl))
+    c.replace.ensures.replaced
