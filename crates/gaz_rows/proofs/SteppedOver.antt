@@ -1,6 +1,6 @@
 -- A step over pages that stand for a gazetteer, behind questions that left them as they were.
 use Rattle.std.proofs.Common.{◌≡◌, ◌<◌, ◌≤◌, ◌+◌, ◌-◌, ℕ, List, [], ◌∷◌, length, refl, sym, ◌∙◌, ap, subst, true, false, Bool, Option, Some, None, Ok, Err}
-use Rattle.std.specs.Prelude.{Result, IfErr, Contains, IsSome, is_some, IsTrue, IsSome, nat_le, if◌then◌else◌}
+use Rattle.std.specs.Prelude.{Result, IfOk, IfErr, Contains, IsSome, is_some, IsTrue, IsSome, nat_le, if◌then◌else◌}
 use Rattle.std.proofs.lemmas.Bool.{leb-true}
 use Rattle.std.proofs.lemmas.Slice.Eq.{bytes_eq-Decides}
 use Rattle.gaz_num.specs.declared.words.Kind.{Kind}
@@ -34,7 +34,7 @@ use Rattle.gaz_rows.specs.declared.target.Target.{Target}
 use Rattle.gaz_rows.specs.declared.target.Target.TheVariants.{Key, Code}
 use Rattle.gaz_rows.specs.Target.{IsTargetOf}
 use Rattle.gaz_rows.specs.Steps.{MeetsLine, IsSlotFor, slot_with, IsSlotOf, counted, recounted, line_put}
-use Rattle.gaz_rows.specs.Stepping.{StandsAt, IsKeyOver, ComesRightly, ChangesRightly, HasSteppedTo, IsFullBy, StandsStill, HasAlready}
+use Rattle.gaz_rows.specs.Stepping.{StandsAt, IsKeyOver, ComesRightly, ChangesRightly, HasSteppedTo, IsFullBy, IsOfPages, StandsStill, HasAlready}
 use Rattle.gaz_rows.specs.Change.{HasCome, HasGone, HasReplaced}
 use Rattle.gaz_keys.specs.Lines.{more_keys}
 use Rattle.gaz_rows.proofs.PairsStands.{meets_line}
@@ -269,6 +269,11 @@ behind gaz v between now root root_between root_now stands kind line key one acc
       recorded = record_here gaz between root_between stands_between kind line key one accepted has over;
     }
 
+-- what follows of the value of an answer that is Ok
+pub map_value : {T F : Type 0} {P Q : T → Type 0} (result : Result T F) → ((value : T) → P value → Q value) → IfOk result P → IfOk result Q
+map_value (Ok value) f p = f value p
+map_value (Err fault) f p = tt
+
 -- what follows where an answer is a fault
 pub map_err : {T F : Type 0} {P Q : F → Type 0} (result : Result T F) → ((fault : F) → P fault → Q fault) → IfErr result P → IfErr result Q
 map_err (Ok value) f p = tt
@@ -285,15 +290,15 @@ come_full kind root now v (Damaged page) same puts right = tt
 come_full kind root now v Failed same puts right = tt
 come_full kind root now v Memory same puts right = tt
 
--- That of one that goes or is replaced never tells it.
-pub change_full : (kind : Kind) (root now : Root) (v : PagesView) (place : ℕ) (was : List ℕ) (fault : StepFault) → ChangesRightly (table_of kind) now v place was fault → IsFullBy kind root fault
-change_full kind root now v place was (Full other) right = absurd right
-change_full kind root now v place was (Malformed reason) right = tt
-change_full kind root now v place was (Damaged page) right = tt
-change_full kind root now v place was Failed right = tt
-change_full kind root now v place was Memory right = tt
+-- A fault of the pages or of memory tells nothing of it.
+pub pages_full : (kind : Kind) (root : Root) (fault : StepFault) → IsOfPages fault → IsFullBy kind root fault
+pages_full kind root (Full other) why = absurd why
+pages_full kind root (Malformed reason) why = tt
+pages_full kind root (Damaged page) why = tt
+pages_full kind root Failed why = tt
+pages_full kind root Memory why = tt
 
--- Nor does that of a question.
+-- Nor does one of a question.
 pub ask_full : (kind : Kind) (root : Root) (cause : AskFault) (result : StepFault) → result ≡ step_fault_by cause → IsFullBy kind root result
 ask_full kind root cause result is = subst (IsFullBy kind root) (sym is) (by cause)
   where

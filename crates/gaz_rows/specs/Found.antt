@@ -33,6 +33,10 @@ record_of key v pairs = option_and_then (record_at v.page) (lookup (key_of key) 
 abbrev pub HasRecord : List ℕ → PagesView → List Pair → Type 0
 HasRecord key v pairs = (place : ℕ) → lookup (key_of key) pairs ≡ Some place → IsSome (record_at v.page place)
 
+-- Where there is a tree, this holds of its pairs.
+abbrev pub OverTree : PagesView → Root → (List Pair → Type 0) → Type 0
+OverTree v root P = IsTrue v.is_told → (pairs : List Pair) → IsTop v.page root.height root.top pairs → P pairs
+
 -- Where there is a tree, and a record at the place that it has for the key, this holds of the pairs.
 abbrev pub OverRecord : List ℕ → PagesView → Root → (List Pair → Type 0) → Type 0
 OverRecord key v root P =

@@ -144,3 +144,9 @@ pub record IsKeyOver (gaz : Gazetteer) (slots : Slots) (kind : Kind) (line key :
   pub same : SameSlots gaz slots now
   pub slot : table_of kind ≡ Codes → IsSlotOf now gaz (column 1 line)
   pub is : line_key now (table_of kind) line ≡ key
+
+-- The fault is one of the pages or of memory, and no refusal.
+abbrev pub IsOfPages : StepFault → Type 0
+IsOfPages (Malformed reason) = ⊥
+IsOfPages (Full table) = ⊥
+IsOfPages other = Unit

@@ -1,18 +1,21 @@
 //! One line is stepped in: it comes, it goes, or it takes the place of another.
 ghost use Rattle.std.specs.Prelude.{◌≡◌, ◌≤◌, ◌<◌, ◌+◌, ◌-◌, ℕ, List, [], ◌∷◌, false, length, IsTrue, IfErr, IfOk, OnOk, Contains, Some, None, IsSome, ◌*◌};
 ghost use Rattle.gaz_plain.specs.Gazetteer.{limit_of};
-ghost use Rattle.gaz_leaf.specs.Node.{Pair};
+ghost use Rattle.gaz_leaf.specs.Node.{Pair, key_of};
+ghost use Rattle.gaz_tree.specs.Pairs.{lookup};
+ghost use Rattle.gaz_heap.specs.Place.{record_at};
 ghost use Rattle.gaz_keys.specs.Lines.{more_keys, IsKeyed};
 ghost use Rattle.gaz_rows.specs.Laid.{IsLaid};
 ghost use Rattle.gaz_rows.specs.Steps.{counted, line_put};
 ghost use Rattle.gaz_rows.specs.Work.{ChangesFew};
 ghost use Rattle.gaz_rows.specs.Change.{HasCome, HasGone, HasReplaced};
-ghost use Rattle.gaz_plain.specs.Gazetteer.{Gazetteer, is_one_line, table_of, is_delete};
+ghost use Rattle.gaz_plain.specs.Gazetteer.{Gazetteer, is_one_line, table_of, is_delete, after_line};
+ghost use Rattle.gaz_num.specs.declared.words.Table.TheVariants.{Codes};
 ghost use Rattle.gaz_num.specs.Check.{reason_against, key_in};
 ghost use Rattle.gaz_num.specs.declared.words.Kind.{Kind};
-ghost use Rattle.gaz_rows.specs.Store.{HasAsked, IsSoundOver, IsStore};
+ghost use Rattle.gaz_rows.specs.Store.{HasAsked, IsSoundOver, IsStore, IsStepFaultOf};
 ghost use Rattle.gaz_rows.specs.Target.{IsTargetOf};
-ghost use Rattle.gaz_rows.specs.Stepping.{IsKeyOver, IsChecked, HasStepped, HasSteppedTo, FailsRightly, StandsAt, HasNewCounts, HasCount, ComesRightly, ChangesRightly, IsRefused, IsFullBy, IsIdle, StandsStill, ChangesBetween, most_between, StaysThere, PutsInItsPlace, StepCosts};
+ghost use Rattle.gaz_rows.specs.Stepping.{IsKeyOver, IsChecked, HasStepped, HasSteppedTo, FailsRightly, StandsAt, HasNewCounts, HasCount, ComesRightly, ChangesRightly, IsRefused, IsFullBy, IsIdle, StandsStill, ChangesBetween, most_between, StaysThere, PutsInItsPlace, HasAlready, IsOfPages, StepCosts};
 
 use crate::RowStore;
 use crate::counts::{count_of, limit_of, set_count};
@@ -178,23 +181,72 @@ impl<P: Pages> RowStore<P> {
         self.replace(alloc, table_of(kind), key, place, was, line)
     }
 
+    /// Takes out the line whose place this is, or puts another for it.
+    fn change_at(
+        &mut self,
+        alloc: Global,
+        kind: Kind,
+        key: &[u8; 32],
+        place: u64,
+        line: &[u8],
+    ) -> Result<(), StepFault>
+        requires may_change { (P.view self.old.pages).is_read_only ≡ false }
+        requires accepted { reason_against kind line.now ≡ None }
+        requires keyed { IsSome (key_in kind line.now) }
+        requires short { length line.now ≤ 65535 }
+        ensures stands { OnOk result (IsTrue (P.view self.old.pages).is_told → (gaz : Gazetteer) (stands : IsStore gaz (P.view self.old.pages) self.old.root)
+            → IsKeyOver gaz stands.slots kind line.now key.now → lookup (key_of key.now) stands.pairs ≡ Some place → IsTrue (is_one_line line.now)
+            → HasSteppedTo gaz kind line.now (P.view self.new.pages) self.new.root) }
+        ensures fault { IfErr result (λ fault. IsTrue (P.view self.old.pages).is_told → (gaz : Gazetteer) (stands : IsStore gaz (P.view self.old.pages) self.old.root)
+            → IsKeyOver gaz stands.slots kind line.now key.now → lookup (key_of key.now) stands.pairs ≡ Some place → IsTrue (is_one_line line.now)
+            → IsStepFaultOf (after_line gaz kind line.now) fault) }
+        ensures idle { OnOk result (IsTrue (P.view self.old.pages).is_told → (gaz : Gazetteer) (stands : IsStore gaz (P.view self.old.pages) self.old.root)
+            → IsKeyOver gaz stands.slots kind line.now key.now → lookup (key_of key.now) stands.pairs ≡ Some place → IsTrue (is_one_line line.now) → HasAlready gaz kind line.now
+            → StandsStill (P.view self.old.pages) self.old.root (P.view self.new.pages) self.new.root) }
+        ensures differ { OnOk result (IsTrue (P.view self.old.pages).is_told → is_delete kind ≡ false → self.old.root.height ≤ 6 → (was : List ℕ) → record_at (P.view self.old.pages).page place ≡ Some was
+            → (P.view self.new.pages).changed ≤ (P.view self.old.pages).changed + most_between (table_of kind) was line.now) }
+        ensures stays { OnOk result (IsTrue (P.view self.old.pages).is_told → is_delete kind ≡ false → (was : List ℕ)
+            → PutsInItsPlace (P.view self.old.pages) self.old.root (P.view self.new.pages) place was line.now) }
+        ensures why { IfErr result IsOfPages }
+        ensures root { HasNewCounts self.old.root self.new.root }
+        ensures costs { StepCosts 320 (P.view self.old.pages) self.old.root (P.view self.new.pages) self.new.root result }
+        ensures keeps { P.keeps self.old.pages self.new.pages }
+    {
+        let mut buf = [0; 65535];
+        match self.record(place, &mut buf) {
+            Ok(size) => self.change(alloc, kind, key, place, &buf[..size], line),
+            Err(fault) => Err(StepFault::from(fault)),
+        }
+    }
+
+    /// The key of an admin code with its own slot, or with a free one.
+    fn key_of_code(&mut self, code: &[u8]) -> Result<[u8; 32], AskFault>
+        ensures key { IfOk result (λ key. IsTrue (P.view self.old.pages).is_told → (gaz : Gazetteer) → (stands : IsStore gaz (P.view self.old.pages) self.old.root)
+            → (kind : Kind) (line : List ℕ) → table_of kind ≡ Codes → key_in kind line ≡ Some code.now → IsKeyOver gaz stands.slots kind line key) }
+        ensures damaged { IfErr result (IsSoundOver (P.view self.old.pages) self.old.root) }
+        ensures asked { HasAsked ((2 * self.old.root.height + 17) * (self.old.root.counts.codes + 1)) (P.view self.old.pages) (P.view self.new.pages) result }
+        ensures root { self.new.root ≡ self.old.root }
+        ensures keeps { P.keeps self.old.pages self.new.pages }
+    {
+        let mut buf = [0; 65535];
+        match self.slot_of(code, &mut buf) {
+            Ok(slot) => Ok(code_key_of(code, slot)),
+            Err(fault) => Err(fault),
+        }
+    }
+
     /// The key by which the place of a line's like stands: that of the target, with the code's own slot or a free one.
-    fn key_of(&mut self, target: Target<'_>, buf: &mut [u8]) -> Result<[u8; 32], AskFault>
-        requires room { 65535 ≤ length buf.old }
+    fn key_of(&mut self, target: Target<'_>) -> Result<[u8; 32], AskFault>
         ensures key { IfOk result (λ key. IsTrue (P.view self.old.pages).is_told → (gaz : Gazetteer) → (stands : IsStore gaz (P.view self.old.pages) self.old.root)
             → (kind : Kind) (line : List ℕ) → IsTargetOf kind line (Some target.entry) → IsKeyOver gaz stands.slots kind line key) }
         ensures damaged { IfErr result (IsSoundOver (P.view self.old.pages) self.old.root) }
-        ensures size { length buf.new ≡ length buf.old }
         ensures asked { HasAsked ((2 * self.old.root.height + 17) * (self.old.root.counts.codes + 1)) (P.view self.old.pages) (P.view self.new.pages) result }
         ensures root { self.new.root ≡ self.old.root }
         ensures keeps { P.keeps self.old.pages self.new.pages }
     {
         match target {
             Target::Key(key) => Ok(key),
-            Target::Code(code) => match self.slot_of(code, buf) {
-                Ok(slot) => Ok(code_key_of(code, slot)),
-                Err(fault) => Err(fault),
-            },
+            Target::Code(code) => self.key_of_code(code),
         }
     }
 
@@ -223,13 +275,12 @@ impl<P: Pages> RowStore<P> {
             Ok(None) => return Ok(()),
             Err(reason) => return Err(StepFault::Malformed(reason)),
         };
-        let mut buf = [0; 65535];
-        let key = match self.key_of(target, &mut buf) {
+        let key = match self.key_of(target) {
             Ok(key) => key,
             Err(fault) => return Err(StepFault::from(fault)),
         };
-        match self.find(&key, &mut buf) {
-            Ok(Some((place, size))) => self.change(alloc, kind, &key, place, &buf[..size], line),
+        match self.place(&key) {
+            Ok(Some(place)) => self.change_at(alloc, kind, &key, place, line),
             Ok(None) if is_delete(kind) => Ok(()),
             Ok(None) => self.come(alloc, table_of(kind), &key, line),
             Err(fault) => Err(StepFault::from(fault)),

@@ -4,10 +4,11 @@ ghost use Rattle.gaz_num.specs.declared.words.Table.TheVariants.{Rows, Alternate
 ghost use Rattle.gaz_heap.specs.Place.{record_at};
 ghost use Rattle.gaz_rows.specs.Store.{Answers, HasAsked, IsSoundOver, IsSound};
 ghost use Rattle.gaz_leaf.specs.Node.{Pair, key_of};
+ghost use Rattle.gaz_tree.specs.Pairs.{lookup};
 ghost use Rattle.gaz_tree.specs.Tree.{IsTop};
 ghost use Rattle.gaz_scan.specs.Ranges.{between};
 ghost use Rattle.gaz_scan.specs.Scan.{Comes, tree_of};
-ghost use Rattle.gaz_rows.specs.Found.{Finds, FindsCoded, FailsSoundly, OverRecord, GivesNext, OverPlace, IsLineOf, has_code as is_coded};
+ghost use Rattle.gaz_rows.specs.Found.{Finds, FindsCoded, FailsSoundly, OverRecord, OverTree, GivesNext, OverPlace, IsLineOf, has_code as is_coded};
 ghost use Rattle.gaz_rows.specs.Stepping.{IsFoundAt};
 
 use crate::fault::AskFault;
@@ -85,6 +86,21 @@ impl<P: Pages> RowStore<P> {
         }
     }
 
+    /// The place of a key, or `None` where the tree hasn't the key.
+    pub(crate) fn place(&mut self, key: &[u8; 32]) -> Result<Option<u64>, AskFault>
+        ensures found { IfOk result (λ found. OverTree (P.view self.old.pages) self.old.root (λ pairs. lookup (key_of key.now) pairs ≡ found)) }
+        ensures damaged { IfErr result (λ fault. OverTree (P.view self.old.pages) self.old.root (λ pairs. IsSound fault)) }
+        ensures asked { HasAsked self.old.root.height (P.view self.old.pages) (P.view self.new.pages) result }
+        ensures root { self.new.root ≡ self.old.root }
+        ensures keeps { P.keeps self.old.pages self.new.pages }
+    {
+        let tree = self.tree();
+        match tree.get(&mut self.pages, key) {
+            Ok(found) => Ok(found),
+            Err(fault) => Err(AskFault::from(fault)),
+        }
+    }
+
     /// The place of a key, and the record there in the front of the buffer with its size; or none where the tree hasn't the key.
     pub(crate) fn find(
         &mut self,
@@ -100,11 +116,10 @@ impl<P: Pages> RowStore<P> {
         ensures root { self.new.root ≡ self.old.root }
         ensures keeps { P.keeps self.old.pages self.new.pages }
     {
-        let tree = self.tree();
-        let place = match tree.get(&mut self.pages, key) {
+        let place = match self.place(key) {
             Ok(Some(place)) => place,
             Ok(None) => return Ok(None),
-            Err(fault) => return Err(AskFault::from(fault)),
+            Err(fault) => return Err(fault),
         };
         match self.record(place, buf) {
             Ok(size) => Ok(Some((place, size))),

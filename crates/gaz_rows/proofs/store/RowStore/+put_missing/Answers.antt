@@ -1,6 +1,6 @@
 use Rattle.std.proofs.Common.{sym, subst, ◌∙◌}
 use Rattle.std.specs.Prelude.{IsTrue}
-use Rattle.gaz_rows.proofs.Working.{few_past, few_on, few_first, few_none, map_ok, zeros_on, zeros_past, zeros_sound, past_sound, first_sound}
+use Rattle.gaz_rows.proofs.Working.{few_past, few_on, few_first, map_ok, zeros_on, zeros_past, zeros_sound, past_sound, first_sound}
 use Rattle.gaz_rows.proofs.store.RowStore.+put_missing.Goals as goal
 
 pub returns-then-is_among-clause-turns : goal.returns-then-is_among-clause-turns
