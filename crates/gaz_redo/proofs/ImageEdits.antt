@@ -1,5 +1,5 @@
 -- What a search for a home among images finds, and what an edit at that place leaves.
-use Rattle.std.proofs.Common.{true, false, Bool, ◌≡◌, ◌≢◌, ◌⊎◌, inl, inr, ⊎_elim, ℕ, zero, suc, ◌+◌, ◌*◌, ◌^◌, ◌<◌, ◌≤◌, List, [], ◌∷◌, ◌++◌, length, get_or, set, take, drop, Some, None, Result, Ok, Err, IfOk, IfErr, refl, sym, ◌∙◌, ap, subst, arith, nat_le, nat_lt, ◌&&◌, ◌||◌, ◌==◌, append_assoc}
+use Rattle.std.proofs.Common.{true, false, Bool, ◌≡◌, ◌≢◌, ◌⊎◌, inl, inr, ⊎_elim, ℕ, zero, suc, ◌+◌, ◌*◌, ◌^◌, ◌<◌, ◌≤◌, List, [], ◌∷◌, ◌++◌, length, get_or, slice_get, set, take, drop, Some, None, Result, Ok, Err, IfOk, IfErr, refl, sym, ◌∙◌, ap, subst, arith, nat_le, nat_lt, ◌&&◌, ◌||◌, ◌==◌, append_assoc}
 use Rattle.std.specs.List.{list_all, insert}
 use Rattle.std.specs.List.Sorted.{IsSearchInRange, IsBinarySearchResult, IsNonDecreasingBy}
 use Rattle.std.specs.Ordering.{nat_cmp, ordering_index}
@@ -7,6 +7,7 @@ use Rattle.std.specs.declared.cmp.Ordering.TheVariants.{Less, Equal, Greater}
 use Rattle.std.proofs.lemmas.Bool.{cases_lt}
 use Rattle.std.proofs.lemmas.Bool.Decides.{nat_tests}
 use Rattle.std.proofs.lemmas.Cmp.{ranked}
+use Rattle.std.proofs.lemmas.Option.{get_or_from_slice_get, slice_get_within}
 use Rattle.std.proofs.lemmas.List.{length-map, get_or-map, map-set, map-append, take-map, drop-map}
 use Rattle.gaz_outside.specs.declared.station.Area.{Area}
 use Rattle.gaz_outside.specs.declared.station.Area.TheVariants.{Mark, Log, Root, Left, Right}
@@ -350,6 +351,13 @@ module _ (items : List Image) (images : are_images (slots_in items) ≡ true) (n
         (λ k d lt. ranked (number_at k d) n Less (sym ((parted comparisons_rise).0 k d (omega arith) lt)))
         (λ k d le within. ranked (number_at k d) n Greater (sym ((parted comparisons_rise).1 k d le within)));
   }
+
+-- an image with the number stands at its place
+pub found_at : (items : List Image) → are_images (slots_in items) ≡ true → (n place : ℕ) (image : Image) → slice_get items place ≡ Some image → home_number image.home.area image.home.page ≡ n
+    → IsPlaceOf n (slots_in items) place
+found_at items images n place image there is =
+    place_at items images n place (slice_get_within items place image there)
+    (λ d. ap (λ (i : Image). home_number i.home.area i.home.page) (get_or_from_slice_get items place image d there) ∙ is)
 
 -- the image at the place of a home is that of the home
 pub get_here : (home : Home) (items : List Image) → are_images (slots_in items) ≡ true → (place : ℕ) (image : Image) → home.page < 2 ^ 32 → IsPlaceOf (home_number home.area home.page) (slots_in items) place → image ≡ get_or items place image

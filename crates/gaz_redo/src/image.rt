@@ -24,4 +24,13 @@ impl Image {
         let bytes = Vec::from_slice(alloc, bytes)?;
         Ok(Image { home, bytes })
     }
+
+    /// Takes this home and these bytes in place of its own.
+    pub fn fill(&mut self, home: Home, bytes: &[u8])
+        requires { length bytes.now ≡ 4096 }
+        ensures { slot_of self.new ≡ slot_for home bytes.now }
+    {
+        self.home = home;
+        self.bytes.copy_from_slice(bytes);
+    }
 }

@@ -1,5 +1,5 @@
 //! Why a call on a store came to nothing.
-use gaz_num::{Reason, Table};
+use gaz_num::{Day, FileName, Reason, Table};
 use gaz_page::PageFault;
 
 /// Why a question has no answer.
@@ -71,4 +71,29 @@ impl From<AskFault> for StepFault {
             AskFault::Memory => StepFault::Memory,
         }
     }
+}
+
+/// Why a load or a day is refused.
+#[derive(Clone, Copy, Debug, PartialEq, Eq)]
+pub enum ChangeFault {
+    /// No load was accepted yet.
+    NotLoaded,
+    /// The date isn't the one after this, the gazetteer's.
+    Sequence(Day),
+    /// The shelf has no such file.
+    Absent(FileName),
+    /// The shelf failed at this file.
+    Shelf(FileName),
+    /// The file has more bytes than it may.
+    TooLong(FileName),
+    /// A line of the file fails its check: its number and the first reason.
+    Malformed(FileName, u64, Reason),
+    /// After the line with this number the table would have more lines than it may.
+    Full(FileName, u64, Table),
+    /// The station failed: the old gazetteer stands or the new one, and the mirror isn't used again.
+    Station,
+    /// This page isn't what it has to be.
+    Damaged(u32),
+    /// There is no memory for it.
+    Memory,
 }

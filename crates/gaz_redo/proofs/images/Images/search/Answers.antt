@@ -3,7 +3,7 @@ use Rattle.std.proofs.lemmas.List.Sorted.{answers_always}
 use Rattle.gaz_redo.specs.declared.image.Image.{Image}
 use Rattle.gaz_redo.specs.Images.{home_number}
 use Rattle.gaz_redo.proofs.ImageEdits.{searched}
-use Rattle.gaz_redo.proofs.images.Images.place_of.Goals as goal
+use Rattle.gaz_redo.proofs.images.Images.search.Goals as goal
 
 -- the closure gives an image's number, and the slice is the list's items
 pub returns : goal.returns
