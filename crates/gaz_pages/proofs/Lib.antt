@@ -1,0 +1,4 @@
+pub mod Homes
+pub mod Reading
+pub mod Laying
+pub mod Changing
