@@ -1,0 +1,15 @@
+pub mod Live
+pub mod Numbers
+pub mod Indexed
+pub mod Seeking
+pub mod Tested
+pub mod Walked
+pub mod Answered
+pub mod Linked
+pub mod Divided
+pub mod Bytes
+pub mod Tagged
+pub mod Reached
+pub mod Within
+pub mod Offered
+pub mod Countries

@@ -1,0 +1,25 @@
+use Rattle.std.proofs.Common.{◌∙◌}
+use Rattle.gaz_kin.proofs.Answered.{if_ok, if_err, comes_between}
+use Rattle.gaz_kin.proofs.Linked.{linked_range, linked_within, least_is}
+use Rattle.gaz_kin.proofs.above.least_linked.Goals as goal
+
+pub returns-clause-found : goal.returns-clause-found
+returns-clause-found g c =
+    let v = g.P.Pages.view c.args.store.now.pages in
+    let root = c.args.store.now.root in
+    if_ok _ _ c.first_linked.result (λ found over told gaz stands.
+    over told gaz stands (linked_range gaz v root stands c.args.child c.args.class c.ranges.child.fits)
+    (comes_between v.page c.scan-scan.result stands.pairs c.link_key-low.result c.link_key-high.result _ _ c.link_key-low.ensures c.link_key-high.ensures (c.scan-scan.ensures.comes v.page stands.pairs stands.tree))
+    (linked_within gaz v root stands c.args.child c.args.class c.ranges.child.fits)
+    ∙ least_is gaz v root stands c.args.child c.args.class c.ranges.child.fits)
+    c.first_linked.ensures.found
+
+pub returns-clause-damaged : goal.returns-clause-damaged
+returns-clause-damaged g c =
+    let v = g.P.Pages.view c.args.store.now.pages in
+    let root = c.args.store.now.root in
+    if_err _ _ c.first_linked.result (λ fault over told gaz stands.
+    over told gaz stands (linked_range gaz v root stands c.args.child c.args.class c.ranges.child.fits)
+    (comes_between v.page c.scan-scan.result stands.pairs c.link_key-low.result c.link_key-high.result _ _ c.link_key-low.ensures c.link_key-high.ensures (c.scan-scan.ensures.comes v.page stands.pairs stands.tree))
+    (linked_within gaz v root stands c.args.child c.args.class c.ranges.child.fits))
+    c.first_linked.ensures.damaged
