@@ -18,7 +18,7 @@ use Rattle.gaz_leaf.specs.Node.{Pair, key_of}
 use Rattle.gaz_tree.specs.Pairs.{lookup}
 use Rattle.gaz_tree.specs.Tree.{IsTop}
 use Rattle.gaz_heap.specs.Place.{record_at}
-use Rattle.gaz_keys.specs.Keys.{code_key}
+use Rattle.gaz_keys.specs.Keys.{code_key, IsKey}
 use Rattle.gaz_num.specs.declared.words.Reason.{Reason}
 use Rattle.gaz_rows.specs.declared.fault.StepFault.{StepFault}
 use Rattle.gaz_rows.specs.declared.fault.StepFault.TheVariants.{Malformed, Full, Failed, Damaged, Memory}
@@ -37,6 +37,7 @@ use Rattle.gaz_rows.specs.Steps.{MeetsLine, IsSlotFor, slot_with, IsSlotOf, coun
 use Rattle.gaz_rows.specs.Stepping.{StandsAt, IsKeyOver, ComesRightly, ChangesRightly, HasSteppedTo, IsFullBy, IsOfPages, StandsStill, HasAlready}
 use Rattle.gaz_rows.specs.Change.{HasCome, HasGone, HasReplaced}
 use Rattle.gaz_keys.specs.Lines.{more_keys}
+use Rattle.gaz_rows.proofs.PairsIndexed.{step_key}
 use Rattle.gaz_rows.proofs.PairsStands.{meets_line}
 use Rattle.gaz_rows.proofs.ReindexedSlots.{slot_kept, slot_new, slots_agree}
 use Rattle.gaz_rows.proofs.SteppedStores.{laid_here, left_here, full_here, place_there, was_keyed, was_counted, come_stands, go_stands, replace_stands, same_stands, none_stands, some_found, none_found, come_taken, change_taken, was_key}
@@ -81,7 +82,7 @@ put_is_line kind line was puts is = same_some was line (sym is ∙ ap (λ (b : B
 
 -- ---- the key of a code
 
-code_kind : (kind : Kind) → table_of kind ≡ Codes → kind ≡ kinds.Code
+pub code_kind : (kind : Kind) → table_of kind ≡ Codes → kind ≡ kinds.Code
 code_kind Row is = absurd (cc)
 code_kind RowDelete is = absurd (cc)
 code_kind Alt is = absurd (cc)
@@ -107,12 +108,14 @@ code_over gaz slots is differ code slot for kind line table keyed key key_is =
       now = slots;
       same = λ l has. refl;
       slot = λ codes. subst (IsSlotOf slots gaz) (sym own) (slot_kept slots gaz code was differ found);
+      chosen = λ codes. subst (λ text. IsSlotFor slots gaz text (slots text)) (sym own) (subst (IsSlotFor slots gaz code) (sym (for.own was found)) for);
       is = ap (λ text. code_key (first_bytes 23 text) (slots text)) own ∙ ap (code_key (first_bytes 23 code)) (for.own was found) ∙ sym key_is;
     }
     by None found = record {
       now = slot_with slots code slot;
       same = slots_agree slots gaz code slot is found;
       slot = λ codes. subst (IsSlotOf (slot_with slots code slot) gaz) (sym own) (slot_new slots gaz code slot (for.new found).0 (for.new found).1);
+      chosen = λ codes. subst (λ text. IsSlotFor slots gaz text (slot_with slots code slot text)) (sym own) (subst (IsSlotFor slots gaz code) (sym given) for);
       is = ap (λ text. code_key (first_bytes 23 text) (slot_with slots code slot text)) own ∙ ap (code_key (first_bytes 23 code)) given ∙ sym key_is;
     }
       where
@@ -229,6 +232,18 @@ module _ (gaz : Gazetteer) (v : PagesView) (root : Root) (stands : StandsForBut 
 
   pub was_key_over : (place : ℕ) (was : List ℕ) → StandsAt v key stands.pairs place was → line_key stands.slots (table_of kind) was ≡ key
   was_key_over = was_key gaz v root stands over.now kind line (numbers_of kind line has).0 key meets over.is
+
+  -- So its table has a line.
+  pub has_over : (place : ℕ) (was : List ℕ) → StandsAt v key stands.pairs place was → (number : List ℕ) → key_in kind line ≡ Some number → line_with (table_of kind) number gaz ≡ None → ⊥
+  has_over place was at number keyed lacks =
+      differ (sym lacks ∙ ap (λ n. line_with (table_of kind) n gaz) (same_some number (numbers_of kind line has).0 (sym keyed ∙ (numbers_of kind line has).1))
+      ∙ some_found gaz v root stands over.now kind line (numbers_of kind line has).0 key meets over.is place was at)
+    where
+      differ : None ≡ Some was → ⊥
+      differ same = cc
+
+  pub fits_over : IsKey key
+  fits_over = subst IsKey over.is (step_key stands.slots over.now gaz kind line (numbers_of kind line has).0 stands.pairs (record_at v.page) meets)
 
   -- Where none stands there it has none.
   pub lacks_over : lookup (key_of key) stands.pairs ≡ None → (number earlier : List ℕ) → key_in kind line ≡ Some number → line_with (table_of kind) number gaz ≡ Some earlier → ⊥

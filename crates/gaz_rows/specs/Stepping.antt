@@ -17,7 +17,7 @@ use Rattle.gaz_rows.specs.declared.fault.StepFault.{StepFault}
 use Rattle.gaz_rows.specs.declared.fault.StepFault.TheVariants.{Malformed, Full, Failed, Damaged, Memory}
 use Rattle.gaz_rows.specs.Laid.{IsLaid}
 use Rattle.gaz_rows.specs.Index.{Slots, line_key}
-use Rattle.gaz_rows.specs.Steps.{SameSlots, IsSlotOf, counted, recounted, line_put}
+use Rattle.gaz_rows.specs.Steps.{SameSlots, IsSlotOf, IsSlotFor, counted, recounted, line_put}
 use Rattle.gaz_rows.specs.Store.{IsStore, IsStepFaultOf, StepFailsOnce}
 use Rattle.gaz_rows.specs.Work.{ChangesFew, missing_in}
 use Rattle.gaz_rows.specs.Change.{HasLeft}
@@ -83,6 +83,11 @@ abbrev pub PutsInItsPlace : PagesView → Root → PagesView → ℕ → List �
 PutsInItsPlace old root new place was line = (pairs : List Pair) (places : List ℕ) → IsLaid old root pairs (root.heap ∷ []) places → Contains places place
     → record_at old.page place ≡ Some was → (IsTrue (is_chain place) → ⊥) → length line ≤ length was → record_at new.page place ≡ Some line
 
+-- An admin code that comes has then the least slot that no code with the same first bytes had.
+abbrev pub TakesLeastSlot : Kind → List ℕ → PagesView → Root → PagesView → Root → Type 0
+TakesLeastSlot kind line old root new now = (gaz next : Gazetteer) (stands : IsStore gaz old root) (after : IsStore next new now) (code : List ℕ) → table_of kind ≡ Codes
+    → key_in kind line ≡ Some code → line_with Codes code gaz ≡ None → IsSlotFor stands.slots gaz code (after.slots code)
+
 -- The table is full only where the line would be put there, and the root counts as many lines in it as it may hold.
 abbrev pub IsFullBy : Kind → Root → StepFault → Type 0
 IsFullBy kind root (Full table) = (is_delete kind ≡ false) × (table ≡ table_of kind) × (limit_of (table_of kind) ≤ counted root.counts (table_of kind))
@@ -143,6 +148,7 @@ pub record IsKeyOver (gaz : Gazetteer) (slots : Slots) (kind : Kind) (line key :
   pub now : Slots
   pub same : SameSlots gaz slots now
   pub slot : table_of kind ≡ Codes → IsSlotOf now gaz (column 1 line)
+  pub chosen : table_of kind ≡ Codes → IsSlotFor slots gaz (column 1 line) (now (column 1 line))
   pub is : line_key now (table_of kind) line ≡ key
 
 -- The fault is one of the pages or of memory, and no refusal.

@@ -15,7 +15,7 @@ ghost use Rattle.gaz_num.specs.Check.{reason_against, key_in};
 ghost use Rattle.gaz_num.specs.declared.words.Kind.{Kind};
 ghost use Rattle.gaz_rows.specs.Store.{HasAsked, IsSoundOver, IsStore, IsStepFaultOf};
 ghost use Rattle.gaz_rows.specs.Target.{IsTargetOf};
-ghost use Rattle.gaz_rows.specs.Stepping.{IsKeyOver, IsChecked, HasStepped, HasSteppedTo, FailsRightly, StandsAt, HasNewCounts, HasCount, ComesRightly, ChangesRightly, IsRefused, IsFullBy, IsIdle, StandsStill, ChangesBetween, most_between, StaysThere, PutsInItsPlace, HasAlready, IsOfPages, StepCosts};
+ghost use Rattle.gaz_rows.specs.Stepping.{IsKeyOver, IsChecked, HasStepped, HasSteppedTo, FailsRightly, StandsAt, HasNewCounts, HasCount, ComesRightly, ChangesRightly, IsRefused, IsFullBy, IsIdle, StandsStill, ChangesBetween, most_between, StaysThere, PutsInItsPlace, HasAlready, IsOfPages, StepCosts, TakesLeastSlot};
 
 use crate::RowStore;
 use crate::counts::{count_of, limit_of, set_count};
@@ -252,9 +252,9 @@ impl<P: Pages> RowStore<P> {
 
     /// Takes the line with the key of this one out of its table, and puts this one in its place unless it is one that only takes out; what
     /// `PlainGaz::step` does. Of the index only those keys change that the two lines don't share, and a line that isn't longer keeps its place.
-    /// A line that changes nothing there changes no page. `Malformed` and `Full` are those of the definition, and leave all as it was, and
-    /// `Memory` comes only where the line would be taken; after another fault than these two the store is to be dropped. At most 320 pages are
-    /// changed, and the height stays at most 6.
+    /// A line that changes nothing there changes no page, and an admin code that comes takes the least slot that none with its first bytes has.
+    /// `Malformed` and `Full` are those of the definition, and leave all as it was, and `Memory` comes only where the line would be taken;
+    /// after another fault than these two the store is to be dropped. At most 320 pages are changed, and the height stays at most 6.
     pub fn step(&mut self, alloc: Global, kind: Kind, line: &[u8]) -> Result<(), StepFault>
         requires one_line { IsTrue (is_one_line line.now) }
         requires may_change { (P.view self.old.pages).is_read_only ≡ false }
@@ -262,6 +262,7 @@ impl<P: Pages> RowStore<P> {
         ensures idle { OnOk result (IsTrue (P.view self.old.pages).is_told → IsIdle kind line.now (P.view self.old.pages) self.old.root (P.view self.new.pages) self.new.root) }
         ensures differ { OnOk result (IsTrue (P.view self.old.pages).is_told → ChangesBetween kind line.now (P.view self.old.pages) self.old.root (P.view self.new.pages)) }
         ensures stays { OnOk result (IsTrue (P.view self.old.pages).is_told → StaysThere kind line.now (P.view self.old.pages) self.old.root (P.view self.new.pages)) }
+        ensures slot { OnOk result (IsTrue (P.view self.old.pages).is_told → TakesLeastSlot kind line.now (P.view self.old.pages) self.old.root (P.view self.new.pages) self.new.root) }
         ensures checked { IsChecked (reason_against kind line.now) result }
         ensures fault { IfErr result (λ fault. IsTrue (P.view self.old.pages).is_told → FailsRightly kind line.now (P.view self.old.pages) self.old.root fault) }
         ensures full { IfErr result (IsFullBy kind self.old.root) }

@@ -5,7 +5,7 @@ use Rattle.gaz_leaf.specs.Node.{key_of}
 use Rattle.gaz_tree.specs.Pairs.{lookup}
 use Rattle.gaz_rows.specs.Index.{line_key}
 use Rattle.gaz_page.specs.declared.tree_root.Root.{Root}
-use Rattle.gaz_plain.specs.Gazetteer.{limit_of, table_of}
+use Rattle.gaz_plain.specs.Gazetteer.{limit_of, table_of, line_with}
 use Rattle.gaz_keys.specs.Lines.{more_keys}
 use Rattle.gaz_rows.specs.Stands.{places_in}
 use Rattle.gaz_rows.specs.Steps.{counted, recounted}
@@ -13,7 +13,8 @@ use Rattle.gaz_rows.specs.Change.{HasCome}
 use Rattle.gaz_rows.specs.Stepping.{ComesRightly, StandsAt, most_between}
 use Rattle.gaz_rows.proofs.Working.{map_ok, all_ok}
 use Rattle.gaz_rows.proofs.ReindexedTaken.{is_malformed, is_comment}
-use Rattle.gaz_rows.proofs.SteppedOver.{short_line, ask_rightly, target_keyed, behind, come_over, come_rightly, none_over, laid_over, map_err, stands_same, come_full, ask_full, lacking_over, was_over, was_key_over, lacks_over, there_over, still, still_behind, pages_full}
+use Rattle.gaz_rows.proofs.SteppedOver.{short_line, ask_rightly, target_keyed, behind, come_over, come_rightly, none_over, laid_over, map_err, stands_same, come_full, ask_full, lacking_over, was_over, was_key_over, lacks_over, there_over, still, still_behind, pages_full, has_over, fits_over}
+use Rattle.gaz_rows.proofs.SlotTaken.{takes_slot, puts_codes}
 use Rattle.gaz_rows.proofs.store.RowStore.step.Goals as goal
 
 pub returns-in-Ok-None-clause-steps : goal.returns-in-Ok-None-clause-steps
@@ -283,3 +284,51 @@ returns-in-Ok-None-2-clause-stays g c =
     let none = rw c.in-Ok-None-place.field-0-is at c.in-Ok-None-place.ensures.found told_between b.stands_between.pairs b.stands_between.tree in
     absurd (lacks_over gaz (v c.place.new.self.pages) c.place.new.self.root b.stands_now c.args.kind c.args.line.now c.in-Ok.key c.requires.one_line target.0 keyed b.over none number was has found))
     c.come.ensures.count
+
+pub returns-in-Ok-None-clause-slot : goal.returns-in-Ok-None-clause-slot
+returns-in-Ok-None-clause-slot g c told gaz next stands after code codes has lacks =
+    let none = rw c.in-Ok-None.field-0-is at c.in-Ok-None.ensures in
+    absurd (differ (sym none.1 ∙ has))
+  where
+    differ : None ≡ Some code → ⊥
+    differ same = cc
+
+pub returns-in-Ok-None-place-clause-slot : goal.returns-in-Ok-None-place-clause-slot
+returns-in-Ok-None-place-clause-slot g c told gaz next stands after code codes has lacks = absurd (puts_codes c.args.kind codes (sym c.is_delete.ensures ∙ c.if-is_delete.true))
+
+pub returns-in-Ok-Some-place-clause-slot : goal.returns-in-Ok-Some-place-clause-slot
+returns-in-Ok-Some-place-clause-slot g c =
+    map_ok c.change_at.result
+    (λ done told gaz next stands after code codes has lacks.
+    let v = g.P.Pages.view in
+    let told_between : IsTrue (v c.key_of.new.self.pages).is_told = subst IsTrue (sym c.key_of.ensures.asked.counts.told) told in
+    let target = rw c.in-Ok-Some.field-0-is at c.in-Ok-Some.ensures in
+    let keyed = target_keyed c.args.kind c.args.line.now c.in-Ok-Some.target target.1 in
+    let b = behind gaz (v c.args.self.now.pages) (v c.key_of.new.self.pages) (v c.place.new.self.pages) c.args.self.now.root c.key_of.new.self.root c.place.new.self.root stands c.args.kind c.args.line.now c.in-Ok.key
+    c.requires.one_line target.0 keyed (subst IsTrue (sym c.place.ensures.asked.counts.told) told_between) (c.in-Ok.ensures.asked.same told) c.key_of.ensures.root (c.in-Ok-Some-place.ensures.asked.same told_between) c.place.ensures.root
+    (c.in-Ok.ensures.key told gaz stands c.args.kind c.args.line.now target.1) in
+    let spot = rw c.in-Ok-Some-place.field-0-is at c.in-Ok-Some-place.ensures.found told_between b.stands_between.pairs b.stands_between.tree in
+    let held = (laid_over gaz (v c.place.new.self.pages) c.place.new.self.root b.stands_now c.args.kind c.args.line.now c.in-Ok.key c.requires.one_line target.0 keyed b.over).held c.in-Ok-Some-place.place (there_over gaz (v c.place.new.self.pages) c.place.new.self.root b.stands_now c.args.kind c.args.line.now c.in-Ok.key c.requires.one_line target.0 keyed b.over c.in-Ok-Some-place.place spot) in
+    let at : StandsAt (v c.place.new.self.pages) c.in-Ok.key b.stands_now.pairs c.in-Ok-Some-place.place held.0 = record { at = spot; record_is = held.1.at } in
+    absurd (has_over gaz (v c.place.new.self.pages) c.place.new.self.root b.stands_now c.args.kind c.args.line.now c.in-Ok.key c.requires.one_line target.0 keyed b.over c.in-Ok-Some-place.place held.0 at code has
+    (subst (λ t. line_with t code gaz ≡ None) (sym codes) lacks)))
+    c.change_at.ensures.stands
+
+pub returns-in-Ok-None-2-clause-slot : goal.returns-in-Ok-None-2-clause-slot
+returns-in-Ok-None-2-clause-slot g c =
+    map_ok c.come.result
+    (λ come told gaz next stands after code codes has lacks.
+    let v = g.P.Pages.view in
+    let told_between : IsTrue (v c.key_of.new.self.pages).is_told = subst IsTrue (sym c.key_of.ensures.asked.counts.told) told in
+    let target = rw c.in-Ok-Some.field-0-is at c.in-Ok-Some.ensures in
+    let keyed = target_keyed c.args.kind c.args.line.now c.in-Ok-Some.target target.1 in
+    let b = behind gaz (v c.args.self.now.pages) (v c.key_of.new.self.pages) (v c.place.new.self.pages) c.args.self.now.root c.key_of.new.self.root c.place.new.self.root stands c.args.kind c.args.line.now c.in-Ok.key
+    c.requires.one_line target.0 keyed (subst IsTrue (sym c.place.ensures.asked.counts.told) told_between) (c.in-Ok.ensures.asked.same told) c.key_of.ensures.root (c.in-Ok-None-place.ensures.asked.same told_between) c.place.ensures.root
+    (c.in-Ok.ensures.key told gaz stands c.args.kind c.args.line.now target.1) in
+    takes_slot gaz next stands.slots c.args.kind c.args.line.now c.in-Ok.key b.over
+    (fits_over gaz (v c.place.new.self.pages) c.place.new.self.root b.stands_now c.args.kind c.args.line.now c.in-Ok.key c.requires.one_line target.0 keyed b.over)
+    (v c.place.new.self.pages) (v c.come.new.self.pages) c.come.new.self.root after b.stands_now.pairs (places_in b.stands_now.pairs)
+    (subst (λ t. HasCome (v c.place.new.self.pages) (v c.come.new.self.pages) c.come.new.self.root b.stands_now.pairs (places_in b.stands_now.pairs) c.in-Ok.key (more_keys t c.args.line.now) c.args.line.now) c.table_of.ensures
+    (come b.told b.stands_now.pairs (places_in b.stands_now.pairs) (laid_over gaz (v c.place.new.self.pages) c.place.new.self.root b.stands_now c.args.kind c.args.line.now c.in-Ok.key c.requires.one_line target.0 keyed b.over)))
+    code codes has)
+    c.come.ensures.come
