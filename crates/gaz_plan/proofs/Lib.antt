@@ -1,0 +1,9 @@
+pub mod Bools
+pub mod Matching
+pub mod Offering
+pub mod Placed
+pub mod Numbers
+pub mod Walking
+pub mod Going
+pub mod Sought
+pub mod Tested

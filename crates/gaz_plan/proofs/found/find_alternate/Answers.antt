@@ -1,0 +1,18 @@
+use Rattle.std.proofs.Common.{[], take, sym, ◌∙◌}
+use Rattle.gaz_num.specs.declared.words.Kind.TheVariants.{Alt}
+use Rattle.gaz_plan.proofs.Placed.{passed, alternate_accepted}
+use Rattle.gaz_plan.proofs.found.find_alternate.Goals as goal
+
+pub returns-then-is_err-clause-damaged : goal.returns-then-is_err-clause-damaged
+returns-then-is_err-clause-damaged g c told gaz stands =
+    let line = take c.in-Ok-Some.size c.get_alt.new.buf in
+    absurd (passed Alt line c.check_alt.result (alternate_accepted gaz stands.is_gazetteer c.args.id line (rw c.in-Ok-Some.field-0-is at (c.in-Ok-Some.ensures.line told [] gaz stands))) c.check_alt.ensures (sym c.is_err.ensures.value ∙ c.if-is_err.true))
+
+pub returns-else-is_err-clause-line : goal.returns-else-is_err-clause-line
+returns-else-is_err-clause-line g c told gaz stands = rw c.in-Ok-Some.field-0-is at (c.in-Ok-Some.ensures.line told [] gaz stands)
+
+pub returns-in-Ok-None-clause-line : goal.returns-in-Ok-None-clause-line
+returns-in-Ok-None-clause-line g c told gaz stands = rw c.in-Ok-None.field-0-is at (c.in-Ok-None.ensures.line told [] gaz stands)
+
+pub returns-in-Err-clause-damaged : goal.returns-in-Err-clause-damaged
+returns-in-Err-clause-damaged g c told gaz stands = c.in-Err.ensures.damaged told [] gaz stands

@@ -1,0 +1,37 @@
+use Rattle.std.proofs.Common.{◌≡◌, ◌-◌, ◌^◌, ℕ, List, ap, subst, ◌∙◌, refl}
+use Rattle.gaz_pick.specs.Asked.{asked}
+use Rattle.gaz_leaf.specs.Node.{key_of}
+use Rattle.gaz_scan.specs.Ranges.{between}
+use Rattle.gaz_keys.specs.Keys.{alternate_key}
+use Rattle.gaz_keys.specs.Parts.{tag_of}
+use Rattle.gaz_kin.proofs.Offered.{on_ok}
+use Rattle.gaz_plan.specs.declared.walk.Way.TheVariants.{Alternate}
+use Rattle.gaz_plan.specs.Seen.{SeesMore}
+use Rattle.gaz_plan.specs.Ways.{is_named, is_among}
+use Rattle.gaz_plan.proofs.Offering.{sees}
+use Rattle.gaz_plan.proofs.Sought.{all_alternates, alternate_among}
+use Rattle.gaz_plan.proofs.plan.offer_others.Goals as goal
+
+alternate_tag : (id : ℕ) → tag_of (alternate_key id) ≡ 2
+unfolding alternate_key
+alternate_tag id = refl
+
+pub offer_range-requires-clause-low : goal.offer_range-requires-clause-low
+offer_range-requires-clause-low g c = ap tag_of c.alternate_key-low.ensures ∙ alternate_tag 0
+
+pub offer_range-requires-clause-high : goal.offer_range-requires-clause-high
+offer_range-requires-clause-high g c = ap tag_of c.alternate_key-high.ensures ∙ alternate_tag (2 ^ 32 - 1)
+
+pub returns-clause-more : goal.returns-clause-more
+returns-clause-more g c =
+    let v = g.P.Pages.view c.args.store.now.pages in
+    let root = c.args.store.now.root in
+    let a = asked c.args.query.now in
+    let keep = c.args.best.now.keep in
+    on_ok _ _ c.offer_range.result (λ over told gaz stands.
+    sees gaz stands.is_gazetteer a keep (is_among gaz a Alternate (all_alternates gaz v root stands)) (is_named gaz a) c.args.best.now.pairs c.offer_range.new.best.pairs
+    (subst (λ (high : List ℕ). SeesMore gaz a keep (is_among gaz a Alternate (between (key_of (alternate_key 0)) (key_of high) stands.pairs)) c.args.best.now.pairs c.offer_range.new.best.pairs) c.alternate_key-high.ensures
+    (subst (λ (low : List ℕ). SeesMore gaz a keep (is_among gaz a Alternate (between (key_of low) (key_of c.alternate_key-high.result) stands.pairs)) c.args.best.now.pairs c.offer_range.new.best.pairs) c.alternate_key-low.ensures
+    (over told gaz stands)))
+    (λ row at is_one named. alternate_among gaz v root stands a row named))
+    c.offer_range.ensures.more

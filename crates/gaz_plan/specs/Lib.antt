@@ -1,0 +1,4 @@
+pub mod Wanted
+pub mod Seen
+pub mod Ways
+pub mod Searched

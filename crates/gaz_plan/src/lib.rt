@@ -1,0 +1,14 @@
+//! The answer to a search, over the tables in pages.
+//! `search` offers the rows that match to the first answers in order: over pages that stand for a gazetteer they are those of the
+//! gazetteer, by the same words as over plain lists. It goes over the keys that may lead to such rows, and each row is tested on its own
+//! line. Nothing here takes memory but the test of names. Damage is answered never over pages that stand for a gazetteer, and a search
+//! ends and is safe on any bytes.
+#![tactic(auto)]
+
+mod found;
+mod offer;
+mod plan;
+mod walk;
+mod wanted;
+
+pub use plan::search;

@@ -1,0 +1,131 @@
+//! The answer to a search.
+ghost use Rattle.std.specs.Prelude.{◌≡◌, ◌≢◌, ◌≤◌, ◌+◌, [], length, take, drop, IfErr, OnOk};
+ghost use Rattle.gaz_pick.specs.Asked.{absent, asked};
+ghost use Rattle.gaz_pick.specs.Order.{in_order};
+ghost use Rattle.gaz_plain.specs.Search.{matching_pairs, answer_pairs};
+ghost use Rattle.gaz_plan.specs.Wanted.{wanted_of};
+ghost use Rattle.gaz_rows.specs.Store.{IsUndamaged, TakesNoMemory};
+ghost use Rattle.gaz_kin.specs.Over.{OverStore};
+ghost use Rattle.gaz_plan.specs.Seen.{SeesMore};
+ghost use Rattle.gaz_plan.specs.Ways.{fits_itself, is_named};
+ghost use Rattle.gaz_plan.specs.Searched.{HasSearched};
+
+use crate::walk::{Way, offer_range};
+use crate::wanted::Wanted;
+use gaz_keys::{alternate_key, place_key};
+use gaz_page::Pages;
+use gaz_pick::{Best, Query, first_of_more};
+use gaz_rows::{AskFault, RowStore};
+use std::alloc::Global;
+
+/// Offers the rows that have all that is asked, of which a name of their own fits where one is asked for. It goes over all rows.
+fn offer_rows<P: Pages>(
+    store: &mut RowStore<P>,
+    query: &Query<'_>,
+    wanted: &Wanted,
+    best: &mut Best,
+    buf: &mut [u8],
+) -> Result<(), AskFault>
+    requires room { 65535 ≤ length buf.old }
+    requires wanted { wanted.now.test ≡ wanted_of (asked query.now).name }
+    ensures keep { best.new.keep ≡ best.old.keep }
+    ensures more { OnOk result (OverStore (P.view store.old.pages) store.old.root
+        (λ gaz. SeesMore gaz (asked query.now) best.old.keep (fits_itself (asked query.now)) best.old.pairs best.new.pairs)) }
+    ensures damaged { IfErr result (λ fault. OverStore (P.view store.old.pages) store.old.root (λ gaz. IsUndamaged fault)) }
+    ensures absent { (asked query.now).name ≡ absent → IfErr result TakesNoMemory }
+    ensures size { length buf.new ≡ length buf.old }
+    ensures asked { HasSearched (P.view store.old.pages) (P.view store.new.pages) result }
+    ensures root { store.new.root ≡ store.old.root }
+    ensures keeps { P.keeps store.old.pages store.new.pages }
+{
+    let low = place_key(0);
+    let high = place_key(u32::MAX);
+    offer_range(store, Way::Row, &low, &high, query, wanted, best, buf)
+}
+
+/// Offers the rows that have all that is asked, of which an alternate name fits. It goes over all of these.
+fn offer_others<P: Pages>(
+    store: &mut RowStore<P>,
+    query: &Query<'_>,
+    wanted: &Wanted,
+    best: &mut Best,
+    buf: &mut [u8],
+) -> Result<(), AskFault>
+    requires room { 65535 ≤ length buf.old }
+    requires wanted { wanted.now.test ≡ wanted_of (asked query.now).name }
+    requires named { (asked query.now).name ≢ absent }
+    ensures keep { best.new.keep ≡ best.old.keep }
+    ensures more { OnOk result (OverStore (P.view store.old.pages) store.old.root
+        (λ gaz. SeesMore gaz (asked query.now) best.old.keep (is_named gaz (asked query.now)) best.old.pairs best.new.pairs)) }
+    ensures damaged { IfErr result (λ fault. OverStore (P.view store.old.pages) store.old.root (λ gaz. IsUndamaged fault)) }
+    ensures size { length buf.new ≡ length buf.old }
+    ensures asked { HasSearched (P.view store.old.pages) (P.view store.new.pages) result }
+    ensures root { store.new.root ≡ store.old.root }
+    ensures keeps { P.keeps store.old.pages store.new.pages }
+{
+    let low = alternate_key(0);
+    let high = alternate_key(u32::MAX);
+    offer_range(store, Way::Alternate, &low, &high, query, wanted, best, buf)
+}
+
+/// Offers the rows that have all that is asked.
+fn offer_matching<P: Pages>(
+    store: &mut RowStore<P>,
+    query: &Query<'_>,
+    wanted: &Wanted,
+    best: &mut Best,
+    buf: &mut [u8],
+) -> Result<(), AskFault>
+    requires room { 65535 ≤ length buf.old }
+    requires wanted { wanted.now.test ≡ wanted_of (asked query.now).name }
+    requires none { best.old.pairs ≡ [] }
+    ensures keep { best.new.keep ≡ best.old.keep }
+    ensures pairs { OnOk result (OverStore (P.view store.old.pages) store.old.root (λ gaz. best.new.pairs ≡ take best.old.keep (in_order (matching_pairs gaz (asked query.now))))) }
+    ensures damaged { IfErr result (λ fault. OverStore (P.view store.old.pages) store.old.root (λ gaz. IsUndamaged fault)) }
+    ensures absent { (asked query.now).name ≡ absent → IfErr result TakesNoMemory }
+    ensures size { length buf.new ≡ length buf.old }
+    ensures asked { HasSearched (P.view store.old.pages) (P.view store.new.pages) result }
+    ensures root { store.new.root ≡ store.old.root }
+    ensures keeps { P.keeps store.old.pages store.new.pages }
+{
+    match offer_rows(store, query, wanted, best, buf) {
+        Ok(()) => {}
+        Err(fault) => return Err(fault),
+    }
+    if wanted.is_nothing() {
+        return Ok(());
+    }
+    offer_others(store, query, wanted, best, buf)
+}
+
+/// Puts the first of the rows that match into `best`, which then has those that the answer is cut from. Memory may be wanting only where
+/// a name is asked for, and `best` then has any pairs.
+pub fn search<P: Pages>(
+    alloc: Global,
+    store: &mut RowStore<P>,
+    query: &Query<'_>,
+    buf: &mut [u8],
+    best: &mut Best,
+) -> Result<(), AskFault>
+    requires start { query.now.start ≤ 5000 }
+    requires max { query.now.max ≤ 1000 }
+    requires room { 65535 ≤ length buf.old }
+    ensures keep { best.new.keep ≡ query.now.start + query.now.max }
+    ensures held { OnOk result (OverStore (P.view store.old.pages) store.old.root
+        (λ gaz. best.new.pairs ≡ take (query.now.start + query.now.max) (in_order (matching_pairs gaz (asked query.now))))) }
+    ensures answer { OnOk result (OverStore (P.view store.old.pages) store.old.root
+        (λ gaz. take query.now.max (drop query.now.start best.new.pairs) ≡ answer_pairs gaz (asked query.now))) }
+    ensures absent { (asked query.now).name ≡ absent → IfErr result TakesNoMemory }
+    ensures damaged { IfErr result (λ fault. OverStore (P.view store.old.pages) store.old.root (λ gaz. IsUndamaged fault)) }
+    ensures size { length buf.new ≡ length buf.old }
+    ensures asked { HasSearched (P.view store.old.pages) (P.view store.new.pages) result }
+    ensures root { store.new.root ≡ store.old.root }
+    ensures keeps { P.keeps store.old.pages store.new.pages }
+{
+    first_of_more();
+    best.clear(query.start + query.max);
+    match Wanted::of(alloc, &query.name) {
+        Ok(wanted) => offer_matching(store, query, &wanted, best, buf),
+        Err(_cause) => Err(AskFault::Memory),
+    }
+}
