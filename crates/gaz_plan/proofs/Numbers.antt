@@ -11,7 +11,7 @@ use Rattle.gaz_keys.specs.Parts.{four_at}
 use Rattle.gaz_keys.proofs.KeysFit.{place_key_fits, alternate_key_fits}
 use Rattle.gaz_rows.proofs.RoomPairs.{bytes_of}
 use Rattle.gaz_kin.proofs.Numbers.{byte_in}
-use Rattle.gaz_plan.specs.Ways.{first_id}
+use Rattle.gaz_plan.specs.Ways.{number_at}
 
 -- ---- the bytes of a key's number are the key
 
@@ -114,8 +114,8 @@ alternate_read id small = from_be_bytes-to_be_bytes_4 id small
 pub place_first : (key : List ℕ) (id : ℕ) → id < 2 ^ 32 → key ≡ place_key id → four_at 1 key ≡ id
 place_first key id small is = ap (four_at 1) is ∙ place_read id small
 
-pub row_id : (id : ℕ) → id < 2 ^ 32 → first_id (key_of (place_key id)) ≡ id
+pub row_id : (id : ℕ) → id < 2 ^ 32 → number_at 1 (key_of (place_key id)) ≡ id
 row_id id small = place_first (bytes_of (key_of (place_key id))) id small (key_bytes (place_key id) (place_key_fits id))
 
-pub alternate_id : (id : ℕ) → id < 2 ^ 32 → first_id (key_of (alternate_key id)) ≡ id
+pub alternate_id : (id : ℕ) → id < 2 ^ 32 → number_at 1 (key_of (alternate_key id)) ≡ id
 alternate_id id small = ap (four_at 1) (key_bytes (alternate_key id) (alternate_key_fits id)) ∙ alternate_read id small

@@ -25,7 +25,7 @@ use Rattle.gaz_rows.proofs.Members.{head_is_in}
 use Rattle.gaz_rows.proofs.PairsPlaces.{tag_key}
 use Rattle.gaz_rows.proofs.Room.{tree_not_full}
 use Rattle.gaz_kin.proofs.Indexed.{is_line, each_in, found_in, pair_in}
-use Rattle.gaz_plan.specs.Ways.{first_id, fits_itself, is_named, stands_for, is_among}
+use Rattle.gaz_plan.specs.Ways.{number_at, fits_itself, is_named, stands_for, is_among}
 use Rattle.gaz_plan.specs.declared.walk.Way.TheVariants.{Row, Alternate}
 use Rattle.gaz_plan.specs.Searched.{AreOf}
 use Rattle.gaz_plan.proofs.Bools.{any_has, has_any}
@@ -73,9 +73,9 @@ module _ (gaz : Gazetteer) (v : PagesView) (root : Root) (stands : IsStore gaz v
       let high = place_number (2 ^ 32 - 1) (omega arith) in
       let pair = pair_in gaz v root stands (key_of (place_key 0)) (key_of (place_key (2 ^ 32 - 1))) Rows row (place_key id) there (head_is_in (place_key id) (more_keys Rows row))
       (omega (arith, number, low)) (omega (arith, number, high, small)) in
-      let is : first_id (key_of (place_key id)) ≡ id_of row = row_id id small in
+      let is : number_at 1 (key_of (place_key id)) ≡ id_of row = row_id id small in
       has_any (λ p. stands_for gaz asked Row p.key row) all_rows (record { key = key_of (place_key id); value = pair.0 }) pair.1
-      (and_from (first_id (key_of (place_key id)) == id_of row) (fits_itself asked row) (eq-eqb (first_id (key_of (place_key id))) (id_of row) is) fits)
+      (and_from (number_at 1 (key_of (place_key id)) == id_of row) (fits_itself asked row) (eq-eqb (number_at 1 (key_of (place_key id))) (id_of row) is) fits)
 
   abbrev pub all_alternates : List Pair
   all_alternates = between (key_of (alternate_key 0)) (key_of (alternate_key (2 ^ 32 - 1))) stands.pairs
@@ -99,7 +99,7 @@ module _ (gaz : Gazetteer) (v : PagesView) (root : Root) (stands : IsStore gaz v
       let high = alternate_number (2 ^ 32 - 1) (omega arith) in
       let pair = pair_in gaz v root stands (key_of (alternate_key 0)) (key_of (alternate_key (2 ^ 32 - 1))) Alternates line (alternate_key id) some.1 (head_is_in (alternate_key id) (more_keys Alternates line))
       (omega (arith, number, low)) (omega (arith, number, high, small)) in
-      let is : first_id (key_of (alternate_key id)) ≡ id = alternate_id id small in
+      let is : number_at 1 (key_of (alternate_key id)) ≡ id = alternate_id id small in
       has_any (λ p. stands_for gaz asked Alternate p.key row) all_alternates (record { key = key_of (alternate_key id); value = pair.0 }) pair.1
       (ap (λ n. fits_line (wanted_of asked.name) asked.lang (id_of row) (line_with Alternates (n ∷ []) gaz)) is
       ∙ ap (fits_line (wanted_of asked.name) asked.lang (id_of row)) (alternate_found line some.1)

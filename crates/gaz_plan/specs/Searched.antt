@@ -21,7 +21,7 @@ use Rattle.gaz_plan.specs.declared.wanted.Test.{Test}
 use Rattle.gaz_plan.specs.declared.walk.Way.{Way}
 use Rattle.gaz_plan.specs.Wanted.{fits_other}
 use Rattle.gaz_plan.specs.Seen.{SeesMore}
-use Rattle.gaz_plan.specs.Ways.{first_id, fits_itself, stands_for}
+use Rattle.gaz_plan.specs.Ways.{number_at, fits_itself, stands_for}
 
 -- what the pages answered where there is this fault: memory for names is none of theirs
 abbrev pub fault_by_pages : AskFault → Result Unit AskFault
@@ -49,7 +49,7 @@ OverPairs v root P = IsTrue v.is_told → (gaz : Gazetteer) → (stands : IsStor
 -- The line is a row, with the id in the key.
 pub record IsRowOf (gaz : Gazetteer) (key : ℕ) (line : List ℕ) : Type 0 where
   pub there : Contains gaz.rows line
-  pub id : first_id key ≡ id_of line
+  pub id : number_at 1 key ≡ id_of line
 
 -- the pairs that are held after a row was tested
 abbrev pub after_test : Bool → ℕ → Picked → List Picked → List Picked

@@ -10,16 +10,17 @@ use Rattle.gaz_leaf.specs.Node.{Pair}
 use Rattle.gaz_keys.specs.Parts.{four_at}
 use Rattle.gaz_rows.proofs.RoomPairs.{bytes_of}
 use Rattle.gaz_plan.specs.declared.walk.Way.{Way}
-use Rattle.gaz_plan.specs.declared.walk.Way.TheVariants.{Row, Alternate}
+use Rattle.gaz_plan.specs.declared.walk.Way.TheVariants.{Row, Alternate, Lying}
 
 -- the tag of the keys
 abbrev pub tag_by : Way → ℕ
 tag_by Row = 1
 tag_by Alternate = 2
+tag_by Lying = 8
 
--- the id behind the tag, in a key that is a number
-abbrev pub first_id : ℕ → ℕ
-first_id key = four_at 1 (bytes_of key)
+-- the id that stands at a byte of a key that is a number
+abbrev pub number_at : ℕ → ℕ → ℕ
+number_at at key = four_at at (bytes_of key)
 
 -- nothing is asked of names, or one of the row's own fits
 abbrev pub fits_itself : Asked → List ℕ → Bool
@@ -35,8 +36,9 @@ is_named_by gaz asked id row = fits_line (wanted_of asked.name) asked.lang (id_o
 
 -- a key that is a number stands for the row
 abbrev pub stands_for : Gazetteer → Asked → Way → ℕ → List ℕ → Bool
-stands_for gaz asked Row key row = is_itself asked (first_id key) row
-stands_for gaz asked Alternate key row = is_named_by gaz asked (first_id key) row
+stands_for gaz asked Row key row = is_itself asked (number_at 1 key) row
+stands_for gaz asked Alternate key row = is_named_by gaz asked (number_at 1 key) row
+stands_for gaz asked Lying key row = is_itself asked (number_at 11 key) row
 
 -- the key of one of these pairs does
 abbrev pub is_among : Gazetteer → Asked → Way → List Pair → List ℕ → Bool

@@ -8,7 +8,7 @@ ghost use Rattle.gaz_plan.specs.Wanted.{wanted_of};
 ghost use Rattle.gaz_rows.specs.Store.{IsUndamaged, TakesNoMemory};
 ghost use Rattle.gaz_kin.specs.Over.{OverStore};
 ghost use Rattle.gaz_plan.specs.Seen.{SeesMore};
-ghost use Rattle.gaz_plan.specs.Ways.{first_id, is_itself, is_named_by};
+ghost use Rattle.gaz_plan.specs.Ways.{number_at, is_itself, is_named_by};
 ghost use Rattle.gaz_plan.specs.Searched.{HasSearched, OverKey, after_test, after_found, takes_row, place_named};
 
 use crate::found::{find_alternate, find_row, row_at};
@@ -71,7 +71,7 @@ pub(crate) fn offer_at<P: Pages>(
     requires wanted { wanted.now.test ≡ wanted_of (asked query.now).name }
     ensures keep { best.new.keep ≡ best.old.keep }
     ensures more { OnOk result ((key : ℕ) → OverKey (P.view store.old.pages) store.old.root 1 key place
-        (λ gaz. SeesMore gaz (asked query.now) best.old.keep (is_itself (asked query.now) (first_id key)) best.old.pairs best.new.pairs)) }
+        (λ gaz. SeesMore gaz (asked query.now) best.old.keep (is_itself (asked query.now) (number_at 1 key)) best.old.pairs best.new.pairs)) }
     ensures damaged { IfErr result (λ fault. (key : ℕ) → OverKey (P.view store.old.pages) store.old.root 1 key place (λ gaz. IsUndamaged fault)) }
     ensures absent { (asked query.now).name ≡ absent → IfErr result TakesNoMemory }
     ensures size { length buf.new ≡ length buf.old }
@@ -82,6 +82,35 @@ pub(crate) fn offer_at<P: Pages>(
     first_of_more();
     match row_at(store, place, buf) {
         Ok(size) => offer_itself(query, wanted, &Row::of(&buf[..size]), best),
+        Err(fault) => Err(fault),
+    }
+}
+
+/// Offers the row with an id, if there is one.
+pub(crate) fn offer_row<P: Pages>(
+    store: &mut RowStore<P>,
+    id: u32,
+    query: &Query<'_>,
+    wanted: &Wanted,
+    best: &mut Best,
+    buf: &mut [u8],
+) -> Result<(), AskFault>
+    requires room { 65535 ≤ length buf.old }
+    requires wanted { wanted.now.test ≡ wanted_of (asked query.now).name }
+    ensures keep { best.new.keep ≡ best.old.keep }
+    ensures more { OnOk result (OverStore (P.view store.old.pages) store.old.root
+        (λ gaz. SeesMore gaz (asked query.now) best.old.keep (is_itself (asked query.now) id) best.old.pairs best.new.pairs)) }
+    ensures damaged { IfErr result (λ fault. OverStore (P.view store.old.pages) store.old.root (λ gaz. IsUndamaged fault)) }
+    ensures absent { (asked query.now).name ≡ absent → IfErr result TakesNoMemory }
+    ensures size { length buf.new ≡ length buf.old }
+    ensures asked { HasSearched (P.view store.old.pages) (P.view store.new.pages) result }
+    ensures root { store.new.root ≡ store.old.root }
+    ensures keeps { P.keeps store.old.pages store.new.pages }
+{
+    first_of_more();
+    match find_row(store, id, buf) {
+        Ok(Some(size)) => offer_itself(query, wanted, &Row::of(&buf[..size]), best),
+        Ok(None) => Ok(()),
         Err(fault) => Err(fault),
     }
 }

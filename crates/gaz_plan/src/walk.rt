@@ -9,10 +9,10 @@ ghost use Rattle.gaz_keys.specs.Parts.{four_at, tag_of};
 ghost use Rattle.gaz_rows.specs.Store.{IsUndamaged, TakesNoMemory};
 ghost use Rattle.gaz_kin.specs.Over.{OverStore};
 ghost use Rattle.gaz_plan.specs.Seen.{SeesMore};
-ghost use Rattle.gaz_plan.specs.Ways.{first_id, tag_by, stands_for, is_among};
+ghost use Rattle.gaz_plan.specs.Ways.{number_at, tag_by, stands_for, is_among};
 ghost use Rattle.gaz_plan.specs.Searched.{HasSearched, OverKey, OverPairs, OverTagged, SeesNext};
 
-use crate::offer::{offer_at, offer_named};
+use crate::offer::{offer_at, offer_named, offer_row};
 use crate::wanted::Wanted;
 use gaz_page::Pages;
 use gaz_pick::{Best, Query};
@@ -26,6 +26,8 @@ pub(crate) enum Way {
     Row,
     /// Those of alternate names.
     Alternate,
+    /// Those of rows by where they lie.
+    Lying,
 }
 
 /// More keys than a tree has.
@@ -39,11 +41,12 @@ fn four_at(key: &[u8; 32], at: usize) -> u32
     u32::from_be_bytes([key[at], key[at + 1], key[at + 2], key[at + 3]])
 }
 
-/// The id behind the tag.
-fn first_id(key: &[u8; 32]) -> u32
-    ensures { result ≡ first_id (key_of key.now) }
+/// The id in a key, which stands there.
+fn number_at(key: &[u8; 32], at: usize) -> u32
+    requires { at ≤ 28 }
+    ensures { result ≡ number_at at (key_of key.now) }
 {
-    four_at(key, 1)
+    four_at(key, at)
 }
 
 /// Offers the rows for which a key stands, if they have all that is asked.
@@ -72,7 +75,8 @@ fn offer_for<P: Pages>(
     let (key, place) = found;
     match way {
         Way::Row => offer_at(store, *place, query, wanted, best, buf),
-        Way::Alternate => offer_named(store, first_id(key), query, wanted, best, buf),
+        Way::Alternate => offer_named(store, number_at(key, 1), query, wanted, best, buf),
+        Way::Lying => offer_row(store, number_at(key, 11), query, wanted, best, buf),
     }
 }
 
