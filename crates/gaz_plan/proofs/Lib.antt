@@ -7,3 +7,4 @@ pub mod Walking
 pub mod Going
 pub mod Sought
 pub mod Tested
+pub mod Boxed

@@ -1,5 +1,5 @@
 -- Which rows match: their columns pass, and nothing is asked of names, or one of their own or of their alternate names fits.
-use Rattle.std.proofs.Common.{◌≡◌, ◌⊎◌, inl, inr, ℕ, Bool, true, false, List, [], ◌∷◌, ◌++◌, map, filter, refl, sym, ap, ◌∙◌, Option}
+use Rattle.std.proofs.Common.{◌≡◌, ◌⊎◌, inl, inr, ℕ, Bool, true, false, true≢false, List, [], ◌∷◌, ◌++◌, map, filter, refl, sym, ap, ◌∙◌, Option}
 use Rattle.std.specs.Prelude.{◌&&◌, ◌||◌}
 use Rattle.std.proofs.lemmas.Bool.{or_left, or_right, and_from}
 use Rattle.gaz_num.proofs.CalendarLemmas.{and_left, and_right}
@@ -7,7 +7,7 @@ use Rattle.gaz_row.specs.Row.{id_of}
 use Rattle.gaz_num.specs.Pieces.{column}
 use Rattle.std.specs.List.{list_any}
 use Rattle.gaz_pick.specs.Asked.{Asked, NameAsked, absent, equals, starts}
-use Rattle.gaz_pick.specs.Match.{passes_all}
+use Rattle.gaz_pick.specs.Match.{passes_all, is_value, have_values, lies_in}
 use Rattle.gaz_plain.specs.Gazetteer.{Gazetteer}
 use Rattle.gaz_plain.specs.Names.{names_of, has_name, own_names, alternate_names, is_of, counts_in}
 use Rattle.gaz_plain.specs.Search.{matches}
@@ -93,3 +93,12 @@ module _ (gaz : Gazetteer) (asked : Asked) (row : List ℕ) where
   -- a row that matches is taken where it fits itself
   pub matches_takes : matches gaz asked row ≡ true → fits_itself asked row ≡ true → takes_row asked row ≡ true
   matches_takes is fits = and_from (passes_all asked row) (fits_itself asked row) (matches_passes is) fits
+
+  -- a row that matches lies in the box
+  pub matches_lies : matches gaz asked row ≡ true → lies_in asked.edges row ≡ true
+  matches_lies is = and_right (is_value asked.country (column 9 row) && is_value asked.class (column 7 row) && is_value asked.code (column 8 row) && have_values asked.admin 11 row) (lies_in asked.edges row) (matches_passes is)
+
+pub nothing_absent : (name : NameAsked) → is_nothing (wanted_of name) ≡ true → name ≡ absent
+nothing_absent absent is = refl
+nothing_absent (equals value) is = absurd (true≢false (sym is))
+nothing_absent (starts value) is = absurd (true≢false (sym is))

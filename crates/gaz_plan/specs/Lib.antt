@@ -2,3 +2,4 @@ pub mod Wanted
 pub mod Seen
 pub mod Ways
 pub mod Searched
+pub mod Boxes

@@ -5,6 +5,7 @@
 //! ends and is safe on any bytes.
 #![tactic(auto)]
 
+mod boxes;
 mod found;
 mod offer;
 mod plan;

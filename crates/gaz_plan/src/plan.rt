@@ -2,7 +2,7 @@
 ghost use Rattle.std.specs.Prelude.{◌≡◌, ◌≢◌, ◌≤◌, ◌+◌, [], length, take, drop, IfErr, OnOk};
 ghost use Rattle.gaz_pick.specs.Asked.{absent, asked};
 ghost use Rattle.gaz_pick.specs.Order.{in_order};
-ghost use Rattle.gaz_plain.specs.Search.{matching_pairs, answer_pairs};
+ghost use Rattle.gaz_plain.specs.Search.{matches, matching_pairs, answer_pairs};
 ghost use Rattle.gaz_plan.specs.Wanted.{wanted_of};
 ghost use Rattle.gaz_rows.specs.Store.{IsUndamaged, TakesNoMemory};
 ghost use Rattle.gaz_kin.specs.Over.{OverStore};
@@ -10,6 +10,7 @@ ghost use Rattle.gaz_plan.specs.Seen.{SeesMore};
 ghost use Rattle.gaz_plan.specs.Ways.{fits_itself, is_named};
 ghost use Rattle.gaz_plan.specs.Searched.{HasSearched};
 
+use crate::boxes::offer_box;
 use crate::walk::{Way, offer_range};
 use crate::wanted::Wanted;
 use gaz_keys::{alternate_key, place_key};
@@ -68,7 +69,61 @@ fn offer_others<P: Pages>(
     offer_range(store, Way::Alternate, &low, &high, query, wanted, best, buf)
 }
 
-/// Offers the rows that have all that is asked.
+/// Offers the rows that match, where nothing is asked of names: those of a box, or else all.
+fn offer_unnamed<P: Pages>(
+    store: &mut RowStore<P>,
+    query: &Query<'_>,
+    wanted: &Wanted,
+    best: &mut Best,
+    buf: &mut [u8],
+) -> Result<(), AskFault>
+    requires room { 65535 ≤ length buf.old }
+    requires wanted { wanted.now.test ≡ wanted_of (asked query.now).name }
+    requires unnamed { (asked query.now).name ≡ absent }
+    ensures keep { best.new.keep ≡ best.old.keep }
+    ensures more { OnOk result (OverStore (P.view store.old.pages) store.old.root
+        (λ gaz. SeesMore gaz (asked query.now) best.old.keep (matches gaz (asked query.now)) best.old.pairs best.new.pairs)) }
+    ensures damaged { IfErr result (λ fault. OverStore (P.view store.old.pages) store.old.root (λ gaz. IsUndamaged fault)) }
+    ensures no_memory { IfErr result TakesNoMemory }
+    ensures size { length buf.new ≡ length buf.old }
+    ensures asked { HasSearched (P.view store.old.pages) (P.view store.new.pages) result }
+    ensures root { store.new.root ≡ store.old.root }
+    ensures keeps { P.keeps store.old.pages store.new.pages }
+{
+    match &query.edges {
+        Some(edges) => offer_box(store, edges, query, wanted, best, buf),
+        None => offer_rows(store, query, wanted, best, buf),
+    }
+}
+
+/// Offers the rows that match, where a name is asked for.
+fn offer_by_names<P: Pages>(
+    store: &mut RowStore<P>,
+    query: &Query<'_>,
+    wanted: &Wanted,
+    best: &mut Best,
+    buf: &mut [u8],
+) -> Result<(), AskFault>
+    requires room { 65535 ≤ length buf.old }
+    requires wanted { wanted.now.test ≡ wanted_of (asked query.now).name }
+    requires named { (asked query.now).name ≢ absent }
+    ensures keep { best.new.keep ≡ best.old.keep }
+    ensures more { OnOk result (OverStore (P.view store.old.pages) store.old.root
+        (λ gaz. SeesMore gaz (asked query.now) best.old.keep (matches gaz (asked query.now)) best.old.pairs best.new.pairs)) }
+    ensures damaged { IfErr result (λ fault. OverStore (P.view store.old.pages) store.old.root (λ gaz. IsUndamaged fault)) }
+    ensures size { length buf.new ≡ length buf.old }
+    ensures asked { HasSearched (P.view store.old.pages) (P.view store.new.pages) result }
+    ensures root { store.new.root ≡ store.old.root }
+    ensures keeps { P.keeps store.old.pages store.new.pages }
+{
+    match offer_rows(store, query, wanted, best, buf) {
+        Ok(()) => {}
+        Err(fault) => return Err(fault),
+    }
+    offer_others(store, query, wanted, best, buf)
+}
+
+/// Offers the rows that match.
 fn offer_matching<P: Pages>(
     store: &mut RowStore<P>,
     query: &Query<'_>,
@@ -88,14 +143,11 @@ fn offer_matching<P: Pages>(
     ensures root { store.new.root ≡ store.old.root }
     ensures keeps { P.keeps store.old.pages store.new.pages }
 {
-    match offer_rows(store, query, wanted, best, buf) {
-        Ok(()) => {}
-        Err(fault) => return Err(fault),
-    }
     if wanted.is_nothing() {
-        return Ok(());
+        offer_unnamed(store, query, wanted, best, buf)
+    } else {
+        offer_by_names(store, query, wanted, best, buf)
     }
-    offer_others(store, query, wanted, best, buf)
 }
 
 /// Puts the first of the rows that match into `best`, which then has those that the answer is cut from. Memory may be wanting only where

@@ -1,4 +1,4 @@
-use Rattle.std.proofs.Common.{◌≡◌, take, ap, sym, ◌∙◌}
+use Rattle.std.proofs.Common.{take, ap, sym, ◌∙◌}
 use Rattle.gaz_pick.specs.Asked.{asked}
 use Rattle.gaz_pick.specs.Match.{pair_of}
 use Rattle.gaz_kin.proofs.Offered.{on_ok}
