@@ -8,3 +8,4 @@ pub mod Going
 pub mod Sought
 pub mod Tested
 pub mod Boxed
+pub mod Naming

@@ -1,4 +1,4 @@
--- Keys as numbers and back, and what is read of keys of rows and alternate names.
+-- Keys as numbers and back, and what is read of keys of rows.
 use Rattle.std.proofs.Common.{◌≡◌, ◌<◌, ◌≤◌, ◌+◌, ◌*◌, ◌/◌, ◌%◌, ◌^◌, ℕ, zero, suc, List, [], ◌∷◌, ◌++◌, length, take, drop, refl, sym, ap, ap₂, subst, inl, inr, ◌∙◌, arith, append_assoc}
 use Rattle.std.specs.Prelude.{slice_index}
 use Rattle.std.proofs.lemmas.Bool.{cases_lt}
@@ -6,9 +6,9 @@ use Rattle.std.specs.Int.{w64, to_be_bytes}
 use Rattle.std.proofs.lemmas.Nat.{from_be_bytes-to_be_bytes_4, be_bytes_8}
 use Rattle.std.proofs.lemmas.List.{take-append-drop, take_all, length-take, length-drop, get_or_past}
 use Rattle.gaz_leaf.specs.Node.{key_of, joined, word_at}
-use Rattle.gaz_keys.specs.Keys.{IsKey, place_key, alternate_key}
+use Rattle.gaz_keys.specs.Keys.{IsKey, place_key}
 use Rattle.gaz_keys.specs.Parts.{four_at}
-use Rattle.gaz_keys.proofs.KeysFit.{place_key_fits, alternate_key_fits}
+use Rattle.gaz_keys.proofs.KeysFit.{place_key_fits}
 use Rattle.gaz_rows.proofs.RoomPairs.{bytes_of}
 use Rattle.gaz_kin.proofs.Numbers.{byte_in}
 use Rattle.gaz_plan.specs.Ways.{number_at}
@@ -93,29 +93,18 @@ key_bytes key is = number_bytes key is.size each
       | inr most ↦ subst (λ b. b < 256) (sym (get_or_past key i 0 most)) (omega arith)
     ]
 
--- ---- rows and alternate names
+-- ---- rows
 
 pub place_number : (id : ℕ) → id < 2 ^ 32 → key_of (place_key id) ≡ 1 * 2 ^ 248 + id * 2 ^ 216
 unfolding key_of place_key
 place_number id small = omega (arith, small)
 
-pub alternate_number : (id : ℕ) → id < 2 ^ 32 → key_of (alternate_key id) ≡ 2 * 2 ^ 248 + id * 2 ^ 216
-unfolding key_of alternate_key
-alternate_number id small = omega (arith, small)
-
 place_read : (id : ℕ) → id < 2 ^ 32 → four_at 1 (place_key id) ≡ id
 unfolding place_key
 place_read id small = from_be_bytes-to_be_bytes_4 id small
-
-alternate_read : (id : ℕ) → id < 2 ^ 32 → four_at 1 (alternate_key id) ≡ id
-unfolding alternate_key
-alternate_read id small = from_be_bytes-to_be_bytes_4 id small
 
 pub place_first : (key : List ℕ) (id : ℕ) → id < 2 ^ 32 → key ≡ place_key id → four_at 1 key ≡ id
 place_first key id small is = ap (four_at 1) is ∙ place_read id small
 
 pub row_id : (id : ℕ) → id < 2 ^ 32 → number_at 1 (key_of (place_key id)) ≡ id
 row_id id small = place_first (bytes_of (key_of (place_key id))) id small (key_bytes (place_key id) (place_key_fits id))
-
-pub alternate_id : (id : ℕ) → id < 2 ^ 32 → number_at 1 (key_of (alternate_key id)) ≡ id
-alternate_id id small = ap (four_at 1) (key_bytes (alternate_key id) (alternate_key_fits id)) ∙ alternate_read id small

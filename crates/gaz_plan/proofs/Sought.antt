@@ -9,13 +9,12 @@ use Rattle.gaz_alt.proofs.AcceptedLemmas.{accepted}
 use Rattle.gaz_row.specs.Row.{id_of}
 use Rattle.gaz_pick.specs.Asked.{Asked}
 use Rattle.gaz_plain.specs.Gazetteer.{Gazetteer, key_of as line_key_of, line_at, line_with}
-use Rattle.gaz_plan.specs.Wanted.{wanted_of, fits_as, fits_line}
 use Rattle.gaz_plain.proofs.Selected.{keyed, found_by_key}
 use Rattle.gaz_page.specs.declared.tree_root.Root.{Root}
 use Rattle.gaz_page.specs.Pages.{PagesView}
 use Rattle.gaz_leaf.specs.Node.{Pair, key_of}
 use Rattle.gaz_scan.specs.Ranges.{between}
-use Rattle.gaz_keys.specs.Keys.{IsKey, place_key, alternate_key}
+use Rattle.gaz_keys.specs.Keys.{IsKey, place_key}
 use Rattle.gaz_keys.specs.Parts.{tag_of}
 use Rattle.gaz_keys.specs.Lines.{id_at, more_keys}
 use Rattle.gaz_keys.proofs.Fit.{id_small}
@@ -25,11 +24,11 @@ use Rattle.gaz_rows.proofs.Members.{head_is_in}
 use Rattle.gaz_rows.proofs.PairsPlaces.{tag_key}
 use Rattle.gaz_rows.proofs.Room.{tree_not_full}
 use Rattle.gaz_kin.proofs.Indexed.{is_line, each_in, found_in, pair_in}
-use Rattle.gaz_plan.specs.Ways.{number_at, fits_itself, is_named, stands_for, is_among}
-use Rattle.gaz_plan.specs.declared.walk.Way.TheVariants.{Row, Alternate}
+use Rattle.gaz_plan.specs.Ways.{number_at, fits_itself, stands_for, is_among}
+use Rattle.gaz_plan.specs.declared.walk.Way.TheVariants.{Row}
 use Rattle.gaz_plan.specs.Searched.{AreOf}
-use Rattle.gaz_plan.proofs.Bools.{any_has, has_any}
-use Rattle.gaz_plan.proofs.Numbers.{place_number, alternate_number, row_id, alternate_id}
+use Rattle.gaz_plan.proofs.Bools.{has_any}
+use Rattle.gaz_plan.proofs.Numbers.{place_number, row_id}
 
 -- ---- the pairs of a range
 
@@ -77,9 +76,6 @@ module _ (gaz : Gazetteer) (v : PagesView) (root : Root) (stands : IsStore gaz v
       has_any (λ p. stands_for gaz asked Row p.key row) all_rows (record { key = key_of (place_key id); value = pair.0 }) pair.1
       (and_from (number_at 1 (key_of (place_key id)) == id_of row) (fits_itself asked row) (eq-eqb (number_at 1 (key_of (place_key id))) (id_of row) is) fits)
 
-  abbrev pub all_alternates : List Pair
-  all_alternates = between (key_of (alternate_key 0)) (key_of (alternate_key (2 ^ 32 - 1))) stands.pairs
-
   -- an alternate name is found by its id
   pub alternate_found : (line : List ℕ) → Contains gaz.alternates line → line_with Alternates (id_at 1 line ∷ []) gaz ≡ Some line
   alternate_found line at =
@@ -87,20 +83,3 @@ module _ (gaz : Gazetteer) (v : PagesView) (root : Root) (stands : IsStore gaz v
       let key : line_key_of Alternates line ≡ id_at 1 line ∷ [] = keyed (id_in (column 1 line)) (accepted line (is_line gaz v root stands Alternates line at).accepted).id in
       ap (λ k. line_at Alternates k gaz.alternates) (sym key)
       ∙ subst (λ l. line_at Alternates (line_key_of Alternates l) gaz.alternates ≡ Some l) at.2 (found_by_key Alternates gaz.alternates at.0 line table.rising at.1)
-
-  pub alternate_among : (asked : Asked) (row : List ℕ) → is_named gaz asked row ≡ true → is_among gaz asked Alternate all_alternates row ≡ true
-  alternate_among asked row named =
-      let some = any_has (fits_as (wanted_of asked.name) asked.lang (id_of row)) gaz.alternates named in
-      let line = some.0 in
-      let id = id_at 1 line in
-      let small = id_small 1 line in
-      let number = alternate_number id small in
-      let low = alternate_number 0 (omega arith) in
-      let high = alternate_number (2 ^ 32 - 1) (omega arith) in
-      let pair = pair_in gaz v root stands (key_of (alternate_key 0)) (key_of (alternate_key (2 ^ 32 - 1))) Alternates line (alternate_key id) some.1 (head_is_in (alternate_key id) (more_keys Alternates line))
-      (omega (arith, number, low)) (omega (arith, number, high, small)) in
-      let is : number_at 1 (key_of (alternate_key id)) ≡ id = alternate_id id small in
-      has_any (λ p. stands_for gaz asked Alternate p.key row) all_alternates (record { key = key_of (alternate_key id); value = pair.0 }) pair.1
-      (ap (λ n. fits_line (wanted_of asked.name) asked.lang (id_of row) (line_with Alternates (n ∷ []) gaz)) is
-      ∙ ap (fits_line (wanted_of asked.name) asked.lang (id_of row)) (alternate_found line some.1)
-      ∙ some.2)

@@ -1,9 +1,9 @@
 -- What is asked of names, with the key of the value.
-use Rattle.std.specs.Prelude.{ℕ, Bool, true, false, ◌&&◌, List, Option, Some, None, nat_eq}
+use Rattle.std.specs.Prelude.{ℕ, ◌-◌, min, Bool, true, false, ◌&&◌, List, ◌++◌, length, take, replicate, Option, Some, None, nat_eq}
 use Rattle.std.specs.Str.{bytes_eq}
 use Rattle.std.specs.List.{list_any, starts_with}
 use Rattle.gaz_num.specs.Pieces.{column}
-use Rattle.gaz_name.specs.Name.{name_key_of}
+use Rattle.gaz_name.specs.Name.{name_key_of, first_bytes}
 use Rattle.gaz_pick.specs.Asked.{NameAsked, absent, equals, starts}
 use Rattle.gaz_plain.specs.Names.{own_names, is_of, counts_in}
 use Rattle.gaz_plan.specs.declared.wanted.Test.{Test}
@@ -46,3 +46,14 @@ fits_line test lang id (Some alternate) = fits_as test lang id alternate
 -- whether one of these alternate names does
 abbrev pub fits_any : Test → Option (List ℕ) → ℕ → List (List ℕ) → Bool
 fits_any test lang id alternates = list_any (fits_as test lang id) alternates
+
+-- the first 22 bytes of the least key that fits, and of the greatest
+abbrev pub least_front : Test → List ℕ
+least_front Nothing = replicate 22 0
+least_front (Equals key) = first_bytes 22 key
+least_front (Starts key) = first_bytes 22 key
+
+abbrev pub greatest_front : Test → List ℕ
+greatest_front Nothing = replicate 22 255
+greatest_front (Equals key) = first_bytes 22 key
+greatest_front (Starts key) = take (min (length key) 22) (first_bytes 22 key) ++ replicate (22 - min (length key) 22) 255

@@ -7,19 +7,19 @@ ghost use Rattle.gaz_plan.specs.Wanted.{wanted_of};
 ghost use Rattle.gaz_rows.specs.Store.{IsUndamaged, TakesNoMemory};
 ghost use Rattle.gaz_kin.specs.Over.{OverStore};
 ghost use Rattle.gaz_plan.specs.Seen.{SeesMore};
-ghost use Rattle.gaz_plan.specs.Ways.{fits_itself, is_named};
+ghost use Rattle.gaz_plan.specs.Ways.{fits_itself};
 ghost use Rattle.gaz_plan.specs.Searched.{HasSearched};
 
 use crate::boxes::offer_box;
 use crate::walk::{Way, offer_range};
 use crate::wanted::Wanted;
-use gaz_keys::{alternate_key, place_key};
+use gaz_keys::{place_key, text_key};
 use gaz_page::Pages;
 use gaz_pick::{Best, Query, first_of_more};
 use gaz_rows::{AskFault, RowStore};
 use std::alloc::Global;
 
-/// Offers the rows that have all that is asked, of which a name of their own fits where one is asked for. It goes over all rows.
+/// Offers the rows that have all that is asked. It goes over all rows.
 fn offer_rows<P: Pages>(
     store: &mut RowStore<P>,
     query: &Query<'_>,
@@ -42,31 +42,6 @@ fn offer_rows<P: Pages>(
     let low = place_key(0);
     let high = place_key(u32::MAX);
     offer_range(store, Way::Row, &low, &high, query, wanted, best, buf)
-}
-
-/// Offers the rows that have all that is asked, of which an alternate name fits. It goes over all of these.
-fn offer_others<P: Pages>(
-    store: &mut RowStore<P>,
-    query: &Query<'_>,
-    wanted: &Wanted,
-    best: &mut Best,
-    buf: &mut [u8],
-) -> Result<(), AskFault>
-    requires room { 65535 ≤ length buf.old }
-    requires wanted { wanted.now.test ≡ wanted_of (asked query.now).name }
-    requires named { (asked query.now).name ≢ absent }
-    ensures keep { best.new.keep ≡ best.old.keep }
-    ensures more { OnOk result (OverStore (P.view store.old.pages) store.old.root
-        (λ gaz. SeesMore gaz (asked query.now) best.old.keep (is_named gaz (asked query.now)) best.old.pairs best.new.pairs)) }
-    ensures damaged { IfErr result (λ fault. OverStore (P.view store.old.pages) store.old.root (λ gaz. IsUndamaged fault)) }
-    ensures size { length buf.new ≡ length buf.old }
-    ensures asked { HasSearched (P.view store.old.pages) (P.view store.new.pages) result }
-    ensures root { store.new.root ≡ store.old.root }
-    ensures keeps { P.keeps store.old.pages store.new.pages }
-{
-    let low = alternate_key(0);
-    let high = alternate_key(u32::MAX);
-    offer_range(store, Way::Alternate, &low, &high, query, wanted, best, buf)
 }
 
 /// Offers the rows that match, where nothing is asked of names: those of a box, or else all.
@@ -116,11 +91,9 @@ fn offer_by_names<P: Pages>(
     ensures root { store.new.root ≡ store.old.root }
     ensures keeps { P.keeps store.old.pages store.new.pages }
 {
-    match offer_rows(store, query, wanted, best, buf) {
-        Ok(()) => {}
-        Err(fault) => return Err(fault),
-    }
-    offer_others(store, query, wanted, best, buf)
+    let low = text_key(&wanted.least_front(), 0, 0, 0);
+    let high = text_key(&wanted.greatest_front(), u8::MAX, u32::MAX, u32::MAX);
+    offer_range(store, Way::Name, &low, &high, query, wanted, best, buf)
 }
 
 /// Offers the rows that match.

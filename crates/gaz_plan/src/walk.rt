@@ -24,11 +24,16 @@ use gaz_scan::Scan;
 pub(crate) enum Way {
     /// Those of rows, which stand at their places.
     Row,
-    /// Those of alternate names.
-    Alternate,
     /// Those of rows by where they lie.
     Lying,
+    /// Those of names, a row's own and alternate ones.
+    Name,
 }
+
+/// Where a key of a name says whose it is, and what it says of an alternate name.
+const SOURCE: usize = 23;
+
+const ALTERNATE: u8 = 2;
 
 /// More keys than a tree has.
 const MOST_KEYS: u32 = 1 << 30;
@@ -49,6 +54,34 @@ fn number_at(key: &[u8; 32], at: usize) -> u32
     four_at(key, at)
 }
 
+/// Offers the row for whose name a key stands, if it has all that is asked.
+fn offer_name<P: Pages>(
+    store: &mut RowStore<P>,
+    key: &[u8; 32],
+    query: &Query<'_>,
+    wanted: &Wanted,
+    best: &mut Best,
+    buf: &mut [u8],
+) -> Result<(), AskFault>
+    requires room { 65535 ≤ length buf.old }
+    requires wanted { wanted.now.test ≡ wanted_of (asked query.now).name }
+    requires named { (asked query.now).name ≢ absent }
+    ensures keep { best.new.keep ≡ best.old.keep }
+    ensures more { OnOk result (OverStore (P.view store.old.pages) store.old.root
+        (λ gaz. SeesMore gaz (asked query.now) best.old.keep (stands_for gaz (asked query.now) Way.Name (key_of key.now)) best.old.pairs best.new.pairs)) }
+    ensures damaged { IfErr result (λ fault. OverStore (P.view store.old.pages) store.old.root (λ gaz. IsUndamaged fault)) }
+    ensures size { length buf.new ≡ length buf.old }
+    ensures asked { HasSearched (P.view store.old.pages) (P.view store.new.pages) result }
+    ensures root { store.new.root ≡ store.old.root }
+    ensures keeps { P.keeps store.old.pages store.new.pages }
+{
+    if key[SOURCE] == ALTERNATE {
+        offer_named(store, number_at(key, 28), query, wanted, best, buf)
+    } else {
+        offer_row(store, number_at(key, 24), query, wanted, best, buf)
+    }
+}
+
 /// Offers the rows for which a key stands, if they have all that is asked.
 fn offer_for<P: Pages>(
     store: &mut RowStore<P>,
@@ -61,7 +94,7 @@ fn offer_for<P: Pages>(
 ) -> Result<(), AskFault>
     requires room { 65535 ≤ length buf.old }
     requires wanted { wanted.now.test ≡ wanted_of (asked query.now).name }
-    requires named { way ≡ Way.Alternate → (asked query.now).name ≢ absent }
+    requires named { way ≡ Way.Name → (asked query.now).name ≢ absent }
     ensures keep { best.new.keep ≡ best.old.keep }
     ensures more { OnOk result (OverKey (P.view store.old.pages) store.old.root (tag_by way) (key_of found.now.0) found.now.1
         (λ gaz. SeesMore gaz (asked query.now) best.old.keep (stands_for gaz (asked query.now) way (key_of found.now.0)) best.old.pairs best.new.pairs)) }
@@ -75,8 +108,8 @@ fn offer_for<P: Pages>(
     let (key, place) = found;
     match way {
         Way::Row => offer_at(store, *place, query, wanted, best, buf),
-        Way::Alternate => offer_named(store, number_at(key, 1), query, wanted, best, buf),
         Way::Lying => offer_row(store, number_at(key, 11), query, wanted, best, buf),
+        Way::Name => offer_name(store, key, query, wanted, best, buf),
     }
 }
 
@@ -92,7 +125,7 @@ fn offer_next<P: Pages>(
 ) -> Result<bool, AskFault>
     requires room { 65535 ≤ length buf.old }
     requires wanted { wanted.now.test ≡ wanted_of (asked query.now).name }
-    requires named { way ≡ Way.Alternate → (asked query.now).name ≢ absent }
+    requires named { way ≡ Way.Name → (asked query.now).name ≢ absent }
     ensures keep { best.new.keep ≡ best.old.keep }
     ensures more { IfOk result (λ more. OverTagged (P.view store.old.pages) store.old.root scan.old (tag_by way)
         (λ gaz left. SeesNext gaz (asked query.now) way best.old.keep (P.view store.new.pages).page scan.new left best.old.pairs best.new.pairs more)) }
@@ -128,7 +161,7 @@ fn offer_scan<P: Pages>(
 ) -> Result<(), AskFault>
     requires room { 65535 ≤ length buf.old }
     requires wanted { wanted.now.test ≡ wanted_of (asked query.now).name }
-    requires named { way ≡ Way.Alternate → (asked query.now).name ≢ absent }
+    requires named { way ≡ Way.Name → (asked query.now).name ≢ absent }
     ensures keep { best.new.keep ≡ best.old.keep }
     ensures more { OnOk result (OverTagged (P.view store.old.pages) store.old.root scan.old (tag_by way)
         (λ gaz left. SeesMore gaz (asked query.now) best.old.keep (is_among gaz (asked query.now) way left) best.old.pairs best.new.pairs)) }
@@ -162,7 +195,7 @@ pub(crate) fn offer_range<P: Pages>(
 ) -> Result<(), AskFault>
     requires room { 65535 ≤ length buf.old }
     requires wanted { wanted.now.test ≡ wanted_of (asked query.now).name }
-    requires named { way ≡ Way.Alternate → (asked query.now).name ≢ absent }
+    requires named { way ≡ Way.Name → (asked query.now).name ≢ absent }
     requires low { tag_of low.now ≡ tag_by way }
     requires high { tag_of high.now ≡ tag_by way }
     ensures keep { best.new.keep ≡ best.old.keep }

@@ -1,15 +1,18 @@
 //! What a search asks of the names of a row.
-ghost use Rattle.std.specs.Prelude.{◌≡◌, IsOk, IfOk};
+ghost use Rattle.std.specs.Prelude.{◌≡◌, ◌≤◌, ◌-◌, ◌++◌, take, replicate, IsOk, IfOk};
 ghost use Rattle.std.specs.Option.{option_copied};
 ghost use Rattle.gaz_pick.specs.Asked.{absent, name_asked};
 ghost use Rattle.gaz_plain.specs.Names.{counts_in, is_no_language};
-ghost use Rattle.gaz_plan.specs.Wanted.{wanted_of, is_nothing, fits, fits_own, fits_other};
+ghost use Rattle.gaz_plan.specs.Wanted.{wanted_of, is_nothing, fits, fits_own, fits_other, least_front, greatest_front};
 
 use gaz_alt::Alt;
 use gaz_name::{NameKey, name_key};
 use gaz_pick::NameTest;
 use gaz_row::Row;
 use std::alloc::{AllocError, Global};
+
+/// The bytes of a name key that stand in the keys of the index.
+const FRONT: usize = 22;
 
 /// What is asked of names, with the key of the value.
 #[derive(Drop)]
@@ -43,7 +46,39 @@ fn counts(lang: Option<&str>, alternate: &Alt<'_>) -> bool
     }
 }
 
+/// The greatest of the texts that begin with the first `len` of these bytes.
+fn greatest_from(first: &[u8; FRONT], len: usize) -> [u8; FRONT]
+    requires { len ≤ 22 }
+    ensures { result ≡ take len first.now ++ replicate (22 - len) 255 }
+{
+    let mut last = [255; FRONT];
+    last[..len].copy_from_slice(&first[..len]);
+    last
+}
+
 impl Wanted {
+    /// The first bytes of the least key that fits.
+    pub fn least_front(&self) -> [u8; FRONT]
+        ensures { result ≡ least_front self.now.test }
+    {
+        match &self.test {
+            Test::Nothing => [0; FRONT],
+            Test::Equals(key) => key.first(),
+            Test::Starts(key) => key.first(),
+        }
+    }
+
+    /// The first bytes of the greatest key that fits.
+    pub fn greatest_front(&self) -> [u8; FRONT]
+        ensures { result ≡ greatest_front self.now.test }
+    {
+        match &self.test {
+            Test::Nothing => [255; FRONT],
+            Test::Equals(key) => key.first(),
+            Test::Starts(key) => greatest_from(&key.first(), key.len().min(FRONT)),
+        }
+    }
+
     /// Makes the key of the value. Where nothing is asked it takes no memory.
     pub fn of(alloc: Global, name: &NameTest<'_>) -> Result<Wanted, AllocError>
         ensures wanted { IfOk result (λ wanted. wanted.test ≡ wanted_of (name_asked name.now)) }
