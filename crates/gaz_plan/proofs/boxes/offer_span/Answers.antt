@@ -17,10 +17,10 @@ use Rattle.gaz_plan.proofs.Boxed.{box_tag, span_among}
 use Rattle.gaz_plan.proofs.boxes.offer_span.Goals as goal
 
 pub offer_range-requires-clause-low : goal.offer_range-requires-clause-low
-offer_range-requires-clause-low g c = ap tag_of c.box_key-low.ensures ∙ box_tag c.args.band c.from_antimeridian.result 0
+offer_range-requires-clause-low g c = ap tag_of c.box_key-low.ensures ∙ box_tag _ _ _
 
 pub offer_range-requires-clause-high : goal.offer_range-requires-clause-high
-offer_range-requires-clause-high g c = ap tag_of c.box_key-high.ensures ∙ box_tag c.args.band c.from_antimeridian-2.result (2 ^ 32 - 1)
+offer_range-requires-clause-high g c = ap tag_of c.box_key-high.ensures ∙ box_tag _ _ _
 
 pub returns-clause-more : goal.returns-clause-more
 returns-clause-more g c =

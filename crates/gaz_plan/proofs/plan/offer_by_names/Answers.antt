@@ -15,10 +15,10 @@ use Rattle.gaz_plan.proofs.Offering.{sees}
 use Rattle.gaz_plan.proofs.plan.offer_by_names.Goals as goal
 
 pub offer_range-requires-clause-low : goal.offer_range-requires-clause-low
-offer_range-requires-clause-low g c = ap tag_of c.text_key-low.ensures ∙ text_tag c.least_front.result 0 0 0
+offer_range-requires-clause-low g c = ap tag_of c.text_key-low.ensures ∙ text_tag _ _ _ _
 
 pub offer_range-requires-clause-high : goal.offer_range-requires-clause-high
-offer_range-requires-clause-high g c = ap tag_of c.text_key-high.ensures ∙ text_tag c.greatest_front.result 255 (2 ^ 32 - 1) (2 ^ 32 - 1)
+offer_range-requires-clause-high g c = ap tag_of c.text_key-high.ensures ∙ text_tag _ _ _ _
 
 pub returns-clause-more : goal.returns-clause-more
 returns-clause-more g c =

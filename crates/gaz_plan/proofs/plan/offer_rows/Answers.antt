@@ -1,4 +1,4 @@
-use Rattle.std.proofs.Common.{◌≡◌, ◌-◌, ◌^◌, ℕ, List, ap, subst, ◌∙◌, refl}
+use Rattle.std.proofs.Common.{◌≡◌, ℕ, List, ap, subst, ◌∙◌, refl}
 use Rattle.gaz_pick.specs.Asked.{asked}
 use Rattle.gaz_leaf.specs.Node.{key_of}
 use Rattle.gaz_scan.specs.Ranges.{between}
@@ -17,10 +17,10 @@ unfolding place_key
 place_tag id = refl
 
 pub offer_range-requires-clause-low : goal.offer_range-requires-clause-low
-offer_range-requires-clause-low g c = ap tag_of c.place_key-low.ensures ∙ place_tag 0
+offer_range-requires-clause-low g c = ap tag_of c.place_key-low.ensures ∙ place_tag _
 
 pub offer_range-requires-clause-high : goal.offer_range-requires-clause-high
-offer_range-requires-clause-high g c = ap tag_of c.place_key-high.ensures ∙ place_tag (2 ^ 32 - 1)
+offer_range-requires-clause-high g c = ap tag_of c.place_key-high.ensures ∙ place_tag _
 
 pub returns-clause-more : goal.returns-clause-more
 returns-clause-more g c =
