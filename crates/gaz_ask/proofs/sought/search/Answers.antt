@@ -1,0 +1,33 @@
+use Rattle.std.proofs.Common.{◌∙◌, ap, rules}
+use Rattle.gaz_pages.specs.Held.{root_of}
+use Rattle.gaz_kin.proofs.Answered.{if_err}
+use Rattle.gaz_kin.proofs.Offered.{on_ok}
+use Rattle.gaz_ask.proofs.OnDevice.{over_mirror}
+use Rattle.gaz_ask.proofs.sought.search.Goals as goal
+
+pub returns-clause-held : goal.returns-clause-held
+returns-clause-held g c =
+    let view = g.T.Station.view in
+    let over = c.over-store.result in
+    let pages_are = c.over-store.ensures.pages in
+    on_ok _ _ c.ask_search.result (λ is. over_mirror (view c.args.station.now) (view over.pages.station.now) (root_of c.args.mirror.now) c.in-Some.root over.root over.pages.extent
+    (search rules) (ap (λ p. p.extent) pages_are ∙ c.new-pages.ensures.extent) c.over-store.ensures.root (ap (λ p. view p.station.now) pages_are ∙ ap view c.new-pages.ensures.station_now) c.requires.fits _ is)
+    c.ask_search.ensures.held
+
+pub returns-clause-answer : goal.returns-clause-answer
+returns-clause-answer g c =
+    let view = g.T.Station.view in
+    let over = c.over-store.result in
+    let pages_are = c.over-store.ensures.pages in
+    on_ok _ _ c.ask_search.result (λ is. over_mirror (view c.args.station.now) (view over.pages.station.now) (root_of c.args.mirror.now) c.in-Some.root over.root over.pages.extent
+    (search rules) (ap (λ p. p.extent) pages_are ∙ c.new-pages.ensures.extent) c.over-store.ensures.root (ap (λ p. view p.station.now) pages_are ∙ ap view c.new-pages.ensures.station_now) c.requires.fits _ is)
+    c.ask_search.ensures.answer
+
+pub returns-clause-damaged : goal.returns-clause-damaged
+returns-clause-damaged g c =
+    let view = g.T.Station.view in
+    let over = c.over-store.result in
+    let pages_are = c.over-store.ensures.pages in
+    if_err _ _ c.ask_search.result (λ fault is. over_mirror (view c.args.station.now) (view over.pages.station.now) (root_of c.args.mirror.now) c.in-Some.root over.root over.pages.extent
+    (search rules) (ap (λ p. p.extent) pages_are ∙ c.new-pages.ensures.extent) c.over-store.ensures.root (ap (λ p. view p.station.now) pages_are ∙ ap view c.new-pages.ensures.station_now) c.requires.fits _ is)
+    c.ask_search.ensures.damaged
