@@ -1,5 +1,5 @@
 //! The lines of a day are stepped into the pages of the mirror, and the changed pages are committed.
-ghost use Rattle.std.specs.Prelude.{◌≡◌, ◌^◌, ◌+◌, ◌*◌, ◌≤◌, ℕ, Ok, Some, [], IsTrue, IfErr, IfSome, OnOk, length};
+ghost use Rattle.std.specs.Prelude.{◌≡◌, ◌≢◌, ◌^◌, ◌+◌, ◌*◌, ◌≤◌, ℕ, Ok, Err, Some, [], IsTrue, IfErr, IfSome, OnOk, length, option_map};
 ghost use Rattle.gaz_outside.specs.Outside.{FindsFiles, SameFiles, SameNumbers, files_of};
 ghost use Rattle.gaz_lines.specs.Cutter.{line_limit_of, file_limit_of};
 ghost use Rattle.gaz_page.specs.Area.{page_at};
@@ -16,7 +16,9 @@ ghost use Rattle.gaz_rows.specs.Holds.{AllHold};
 ghost use Rattle.gaz_rows.specs.Stands.{StandsFor};
 ghost use Rattle.gaz_rows.specs.Store.{IsStore};
 ghost use Rattle.gaz_rows.specs.Stepping.{HasNewCounts};
-ghost use Rattle.gaz_change.specs.Change.{fold_named, Changes, Folds, IsSound, IsOutside, IsFaultOfFiles, IsOfDate, FailsOnce, LeavesShelf, AreOpen, AreThere, Blamed, BlamesReached, lines_of};
+ghost use Rattle.gaz_rows.specs.declared.fault.ChangeFault.TheVariants.{Station as StationFault};
+ghost use Rattle.gaz_day.specs.Order.{IsInOrder};
+ghost use Rattle.gaz_change.specs.Change.{refusal_by, fold_named, Changes, Folds, IsSound, IsOutside, IsFaultOfFiles, IsOfDate, FailsOnce, LeavesShelf, AreOpen, AreThere, Blamed, BlamesReached, lines_of};
 
 use gaz_change::{MOST_FILES, files_of_day, fold_files, follow, open_files};
 use gaz_install::install;
@@ -134,6 +136,7 @@ fn apply_opened<F: Shelf, T: Station>(
     ensures printed { IsTrue (T.view station.old).is_told → (T.view station.new).printed ≡ (T.view station.old).printed }
     ensures fits { IsTrue (T.view station.old).is_told → IsOutside result → Fits (root_of mirror.new) (T.view station.new) }
     ensures refused { IfErr result (λ fault. root_of mirror.new ≡ root_of mirror.old) }
+    ensures unwritten { IfErr result (λ fault. fault ≢ StationFault → OnlyReads (T.view station.old) (T.view station.new)) }
     ensures damaged { IfErr result (λ fault. IsTrue (T.view station.old).is_told → (gaz : Gazetteer) → Mirrors (T.view station.old).bytes gaz → IsSound fault) }
     ensures writes { IfSome (files_of (F.view shelf.new)) (λ files. (T.view station.new).writes ≤ (T.view station.old).writes + 1000 * (lines_of files (day_files date) + 1)) }
     ensures counts { OnlyRise (T.view station.old) (T.view station.new) }
@@ -187,6 +190,7 @@ fn open_and_apply<F: Shelf, T: Station>(
     ensures printed { IsTrue (T.view station.old).is_told → (T.view station.new).printed ≡ (T.view station.old).printed }
     ensures fits { IsTrue (T.view station.old).is_told → IsOutside result → Fits (root_of mirror.new) (T.view station.new) }
     ensures refused { IfErr result (λ fault. root_of mirror.new ≡ root_of mirror.old) }
+    ensures unwritten { IfErr result (λ fault. fault ≢ StationFault → OnlyReads (T.view station.old) (T.view station.new)) }
     ensures damaged { IfErr result (λ fault. IsTrue (T.view station.old).is_told → (gaz : Gazetteer) → Mirrors (T.view station.old).bytes gaz → IsSound fault) }
     ensures writes { IfSome (files_of (F.view shelf.new)) (λ files. (T.view station.new).writes ≤ (T.view station.old).writes + 1000 * (lines_of files (day_files date) + 1)) }
     ensures counts { OnlyRise (T.view station.old) (T.view station.new) }
@@ -228,6 +232,11 @@ pub fn apply<F: Shelf, T: Station>(
     ensures printed { IsTrue (T.view station.old).is_told → (T.view station.new).printed ≡ (T.view station.old).printed }
     ensures fits { IsTrue (T.view station.old).is_told → IsOutside result → Fits (root_of mirror.new) (T.view station.new) }
     ensures refused { IfErr result (λ fault. root_of mirror.new ≡ root_of mirror.old) }
+
+    // A day that is refused writes nothing, and it is refused for its date exactly where that isn't the one after the mirror's.
+    ensures unwritten { IfErr result (λ fault. fault ≢ StationFault → OnlyReads (T.view station.old) (T.view station.new)) }
+    ensures by_date { IfErr result (λ fault. IsOfDate fault → IfSome (refusal_by fault) (λ refusal. in_sequence (option_map (λ root. root.day) (root_of mirror.old)) date ≡ Err refusal)) }
+    ensures in_order { IsInOrder result → in_sequence (option_map (λ root. root.day) (root_of mirror.old)) date ≡ Ok date }
 
     // Damage only where the areas mirror no gazetteer.
     ensures damaged { IfErr result (λ fault. IsTrue (T.view station.old).is_told → (gaz : Gazetteer) → Mirrors (T.view station.old).bytes gaz → IsSound fault) }

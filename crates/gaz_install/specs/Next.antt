@@ -1,5 +1,5 @@
 -- Which pages a root may be installed over, and what they stand for then.
-use Rattle.std.specs.Prelude.{◌≡◌, ◌≤◌, ◌*◌, ℕ, List, length}
+use Rattle.std.specs.Prelude.{⊤, ◌≡◌, ◌≤◌, ◌*◌, ℕ, List, length}
 use Rattle.gaz_num.specs.Counts.{RisesOnce}
 use Rattle.gaz_outside.specs.declared.station.Area.TheVariants.{Root}
 use Rattle.gaz_outside.specs.Station.{StationView, IsStable}
@@ -39,6 +39,17 @@ pub record IsNext (next : Gazetteer) (root : PageRoot) (images : List Slot) (v :
   pub within : 4096 * root.fresh ≤ length (pages_with root images v)
   pub stands : StandsFor next (page_at (pages_with root images v)) root
 
+-- These are changed pages with the page of the root, and they can be committed.
+pub record IsPrepared (root : PageRoot) (all : List Slot) (v : StationView) : Type 0 where
+  pub changed : List Slot
+  pub all_are : all ≡ with_root root changed
+  pub may : MayCommit root changed v
+
+-- They are so, and laid over the root's area they stand with the root for the gazetteer.
+pub record IsPreparedFor (next : Gazetteer) (root : PageRoot) (all : List Slot) (v : StationView) : Type 0 where
+  pub prepared : IsPrepared root all v
+  pub stands : IsNext next root prepared.changed v
+
 -- No root page says a height of 0, or above 6.
 abbrev pub IsTooHigh : PageRoot → Type 0
 IsTooHigh root = 1 ≤ root.height → root.height ≤ 6 → ⊥
@@ -49,3 +60,9 @@ IsInstallFault root before now Station = RisesOnce before now
 IsInstallFault root before now Memory = now ≡ before
 IsInstallFault root before now (Damaged page) = (now ≡ before) × IsTooHigh root
 IsInstallFault root before now other = ⊥
+
+-- Memory was wanting, or the root's height can't be said.
+abbrev pub IsPrepareFault : PageRoot → ChangeFault → Type 0
+IsPrepareFault root Memory = ⊤
+IsPrepareFault root (Damaged page) = IsTooHigh root
+IsPrepareFault root other = ⊥

@@ -7,4 +7,4 @@
 
 mod installing;
 
-pub use installing::install;
+pub use installing::{install, install_prepared, prepare};

@@ -20,7 +20,7 @@ ghost use Rattle.gaz_load.specs.Root.{FoldsToRoot, IsOfPages, done_of, fault_of}
 ghost use Rattle.gaz_change.specs.Change.{fold_named, Changes, Folds, IsSound, IsOutside, IsFaultOfFiles, IsOfDate, FailsOnce, AreOpen, AreThere, Blamed, BlamesReached, NoneOpen};
 
 use gaz_change::{MOST_FILES, files_of_load, fold_files, open_files};
-use gaz_install::install;
+use gaz_install::{install_prepared, prepare};
 use gaz_lines::LineCutter;
 use gaz_num::{Day, FileName};
 use gaz_outside::{Failed, Shelf, Station};
@@ -150,7 +150,8 @@ fn fold_load<F: Shelf, T: Station>(
     }
 }
 
-/// Writes the pages of a new store into the idle area and syncs them, and then commits the root page alone that names them.
+/// Writes the pages of a new store into the idle area and syncs them, and then commits the root page alone that names them. All memory is
+/// had before the first write.
 fn commit_load<T: Station>(
     alloc: Global,
     mirror: &mut Mirror,
@@ -167,6 +168,7 @@ fn commit_load<T: Station>(
     ensures loaded { OnOk result (IsTrue (T.view station.old).is_told → (next : Gazetteer) → IsStore next (held_view (side_area root.side) changed.now (T.view station.old)) root → AllHold (T.view station.new) next) }
     ensures fits { IsTrue (T.view station.old).is_told → IsOutside result → Fits (root_of mirror.new) (T.view station.new) }
     ensures still { IfErr result (λ fault. fault ≢ StationFault → IsTrue (T.view station.old).is_told → (first : Gazetteer) → AllHold (T.view station.old) first → AllHold (T.view station.new) first) }
+    ensures unwritten { IfErr result (λ fault. fault ≢ StationFault → station.new ≡ station.old) }
     ensures kept { OnErr result (root_of mirror.new ≡ root_of mirror.old) }
     ensures sound { IfErr result (λ fault. IsTrue (T.view station.old).is_told → IsSound fault) }
     ensures of_pages { IfErr result IsOfPages }
@@ -174,22 +176,26 @@ fn commit_load<T: Station>(
     ensures counts { OnlyRise (T.view station.old) (T.view station.new) }
     ensures faults { FailsOnce (T.view station.old).faults (T.view station.new).faults result }
 {
+    let (fresh, free) = changed.ends();
+    let last = Root {
+        fresh,
+        free,
+        ..root
+    };
+    let mut images = Images::new(alloc);
+    let now = last;
+    match prepare(&mut images, now) {
+        Ok(()) => {}
+        Err(fault) => return Err(fault),
+    }
     match changed.finish(station) {
         Ok(()) => {}
         Err(Failed) => return Err(ChangeFault::Station),
     }
-    let (fresh, free) = changed.ends();
-    let mut images = Images::new(alloc);
-    install(
-        mirror,
-        station,
-        &mut images,
-        Root {
-            fresh,
-            free,
-            ..root
-        },
-    )
+    match install_prepared(mirror, station, &images, last) {
+        Ok(()) => Ok(()),
+        Err(Failed) => Err(ChangeFault::Station),
+    }
 }
 
 /// Loads open files: the pages of the new store are written into the idle area and synced, and then the root page alone is committed.
@@ -213,6 +219,7 @@ fn load_opened<F: Shelf, T: Station>(
     ensures printed { IsTrue (T.view station.old).is_told → (T.view station.new).printed ≡ (T.view station.old).printed }
     ensures fits { IsTrue (T.view station.old).is_told → IsOutside result → Fits (root_of mirror.new) (T.view station.new) }
     ensures refused { IfErr result (λ fault. root_of mirror.new ≡ root_of mirror.old) }
+    ensures unwritten { IfErr result (λ fault. fault ≢ StationFault → OnlyReads (T.view station.old) (T.view station.new)) }
     ensures sound { IfErr result (λ fault. IsTrue (T.view station.old).is_told → IsSound fault) }
     ensures counts { OnlyRise (T.view station.old) (T.view station.new) }
     ensures cause { FailsOnce (T.view station.old).faults (T.view station.new).faults result }
@@ -261,6 +268,7 @@ fn open_and_load<F: Shelf, T: Station>(
     ensures printed { IsTrue (T.view station.old).is_told → (T.view station.new).printed ≡ (T.view station.old).printed }
     ensures fits { IsTrue (T.view station.old).is_told → IsOutside result → Fits (root_of mirror.new) (T.view station.new) }
     ensures refused { IfErr result (λ fault. root_of mirror.new ≡ root_of mirror.old) }
+    ensures unwritten { IfErr result (λ fault. fault ≢ StationFault → OnlyReads (T.view station.old) (T.view station.new)) }
     ensures sound { IfErr result (λ fault. IsTrue (T.view station.old).is_told → IsSound fault) }
     ensures counts { OnlyRise (T.view station.old) (T.view station.new) }
     ensures cause { FailsOnce (T.view station.old).faults (T.view station.new).faults result }
@@ -301,6 +309,9 @@ pub fn load<F: Shelf, T: Station>(
     ensures printed { IsTrue (T.view station.old).is_told → (T.view station.new).printed ≡ (T.view station.old).printed }
     ensures fits { IsTrue (T.view station.old).is_told → IsOutside result → Fits (root_of mirror.new) (T.view station.new) }
     ensures refused { IfErr result (λ fault. root_of mirror.new ≡ root_of mirror.old) }
+
+    // A load that is refused writes nothing.
+    ensures unwritten { IfErr result (λ fault. fault ≢ StationFault → OnlyReads (T.view station.old) (T.view station.new)) }
 
     // The new pages are never damaged.
     ensures sound { IfErr result (λ fault. IsTrue (T.view station.old).is_told → IsSound fault) }
