@@ -29,6 +29,8 @@ class Gazetteer:
 
     def ask(self, request):
         """The lines of a reply before its last one, which begins with `ok`."""
+        if "\n" in request:
+            raise ValueError("a request is one line")
         try:
             self.process.stdin.write(request.encode() + b"\n")
             self.process.stdin.flush()

@@ -105,6 +105,8 @@ with Gazetteer(sys.argv[1], sys.argv[2]) as gazetteer:
     print(gazetteer.admin("XB.02"), gazetteer.admin("XX"))
     try: gazetteer.search(maxRows=1001)
     except Refused as refused: print(refused)
+    try: gazetteer.search(name_equals="two\nlines")
+    except ValueError as error: print(error)
     try: Gazetteer(sys.argv[1], sys.argv[2]).get(102)
     except Ended as ended: print("ended", ended)
     print(gazetteer.close())
@@ -116,6 +118,7 @@ sequence 2024-03-01
 ['80', '90', '91', '102', '105'] ['Évermore']
 {'code': 'XB.02', 'name': 'Everland', 'ascii_name': 'Everland', 'geonameid': '91'} None
 request maxRows
+a request is one line
 ended 3
 0"
 
