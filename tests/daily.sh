@@ -50,7 +50,7 @@ check mended "$(run "$PWD")" $'ok day 2024-03-05\nstatus 0'
 # Two copies at once: the second leaves, or waits.
 exec 9< .
 flock -x 9
-check a_second_copy "$(run .)" $'gaz_daily: another gaz_daily works in this folder\nstatus 75'
+check a_second_copy "$(run .)" $'gaz_daily: another gaz_daily or a gaz_backup works in this folder\nstatus 75'
 day 2024-03-06 9
 run --wait . > ../waited.$$ &
 waiting=$!
