@@ -1,6 +1,6 @@
 -- A day from its files to its commit: what the lines made of the changed pages is the next gazetteer, and its root may be installed.
 use Rattle.std.proofs.Common.{◌≡◌, ◌≢◌, ◌≤◌, ◌*◌, ◌⊎◌, ℕ, List, length, refl, sym, ◌∙◌, ap, subst, arith, inl, inr, Some, None, Option, Ok, Err, Result}
-use Rattle.std.specs.Prelude.{IfSome, IfErr, OnOk, OnErr}
+use Rattle.std.specs.Prelude.{IfSome, IfErr, IsOk, OnOk, OnErr}
 use Rattle.gaz_num.specs.declared.words.FileName.{FileName}
 use Rattle.gaz_num.specs.Refusal.{Refusal, ◌>>=◌}
 use Rattle.gaz_outside.specs.declared.station.Area.{Area}
@@ -138,6 +138,11 @@ module _ (root : Root) (date : ℕ) (v0 v1 : StationView) (changed : Changed) (n
     pub day_ended : (fault : ChangeFault) → ((gaz : Gazetteer) → StandsFor gaz (page_at (v0.bytes area)) (at_date date root) → Folds (files_of shelf) (λ files. fold_named files names gaz) gaz (held_view area changed v1) now (Err fault))
         → Changes defined first shelf v0 v1 (Err fault)
     day_ended fault folds = ended (Some root) v0 v1 fits run defined shelf first holds fault (folded (Err fault) folds).gives
+
+    -- they were stepped in, so they make a gazetteer
+    pub day_makes : ((gaz : Gazetteer) → StandsFor gaz (page_at (v0.bytes area)) (at_date date root) → Folds (files_of shelf) (λ files. fold_named files names gaz) gaz (held_view area changed v1) now (Ok tt))
+        → IfSome (files_of shelf) (λ files. IsOk (defined first files))
+    day_makes folds = weaker (files_of shelf) (λ files is. subst (λ (r : Result Gazetteer Refusal). IsOk r) (sym is) refl) (folded (Ok tt) folds).gives
 
     -- they were stepped in, and the changed pages were committed or not
     pub day_installed : ((gaz : Gazetteer) → StandsFor gaz (page_at (v0.bytes area)) (at_date date root) → Folds (files_of shelf) (λ files. fold_named files names gaz) gaz (held_view area changed v1) now (Ok tt))

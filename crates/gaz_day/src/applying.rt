@@ -1,5 +1,5 @@
 //! The lines of a day are stepped into the pages of the mirror, and the changed pages are committed.
-ghost use Rattle.std.specs.Prelude.{◌≡◌, ◌≢◌, ◌^◌, ◌+◌, ◌*◌, ◌≤◌, ℕ, Ok, Err, Some, [], IsTrue, IfErr, IfSome, OnOk, length, option_map};
+ghost use Rattle.std.specs.Prelude.{◌≡◌, ◌≢◌, ◌⊎◌, ◌^◌, ◌+◌, ◌*◌, ◌≤◌, ℕ, Ok, Err, Some, [], IsTrue, IfErr, IfSome, OnOk, IsOk, length, option_map};
 ghost use Rattle.gaz_outside.specs.Outside.{FindsFiles, SameFiles, SameNumbers, files_of};
 ghost use Rattle.gaz_lines.specs.Cutter.{line_limit_of, file_limit_of};
 ghost use Rattle.gaz_page.specs.Area.{page_at};
@@ -137,6 +137,7 @@ fn apply_opened<F: Shelf, T: Station>(
     ensures fits { IsTrue (T.view station.old).is_told → IsOutside result → Fits (root_of mirror.new) (T.view station.new) }
     ensures refused { IfErr result (λ fault. root_of mirror.new ≡ root_of mirror.old) }
     ensures unwritten { IfErr result (λ fault. fault ≢ StationFault → OnlyReads (T.view station.old) (T.view station.new)) }
+    ensures stopped { IfErr result (λ fault. fault ≡ StationFault → OnlyReads (T.view station.old) (T.view station.new) ⊎ (IsTrue (T.view station.old).is_told → (first : Gazetteer) → AllHold (T.view station.old) first → IfSome (files_of (F.view shelf.new)) (λ files. IsOk (fold_named files (day_files date) (dated first date))))) }
     ensures damaged { IfErr result (λ fault. IsTrue (T.view station.old).is_told → (gaz : Gazetteer) → Mirrors (T.view station.old).bytes gaz → IsSound fault) }
     ensures writes { IfSome (files_of (F.view shelf.new)) (λ files. (T.view station.new).writes ≤ (T.view station.old).writes + 1000 * (lines_of files (day_files date) + 1)) }
     ensures counts { OnlyRise (T.view station.old) (T.view station.new) }
@@ -191,6 +192,7 @@ fn open_and_apply<F: Shelf, T: Station>(
     ensures fits { IsTrue (T.view station.old).is_told → IsOutside result → Fits (root_of mirror.new) (T.view station.new) }
     ensures refused { IfErr result (λ fault. root_of mirror.new ≡ root_of mirror.old) }
     ensures unwritten { IfErr result (λ fault. fault ≢ StationFault → OnlyReads (T.view station.old) (T.view station.new)) }
+    ensures stopped { IfErr result (λ fault. fault ≡ StationFault → OnlyReads (T.view station.old) (T.view station.new) ⊎ (IsTrue (T.view station.old).is_told → (first : Gazetteer) → AllHold (T.view station.old) first → IfSome (files_of (F.view shelf.new)) (λ files. IsOk (fold_named files (day_files date) (dated first date))))) }
     ensures damaged { IfErr result (λ fault. IsTrue (T.view station.old).is_told → (gaz : Gazetteer) → Mirrors (T.view station.old).bytes gaz → IsSound fault) }
     ensures writes { IfSome (files_of (F.view shelf.new)) (λ files. (T.view station.new).writes ≤ (T.view station.old).writes + 1000 * (lines_of files (day_files date) + 1)) }
     ensures counts { OnlyRise (T.view station.old) (T.view station.new) }
@@ -237,6 +239,9 @@ pub fn apply<F: Shelf, T: Station>(
     ensures unwritten { IfErr result (λ fault. fault ≢ StationFault → OnlyReads (T.view station.old) (T.view station.new)) }
     ensures by_date { IfErr result (λ fault. IsOfDate fault → IfSome (refusal_by fault) (λ refusal. in_sequence (option_map (λ root. root.day) (root_of mirror.old)) date ≡ Err refusal)) }
     ensures in_order { IsInOrder result → in_sequence (option_map (λ root. root.day) (root_of mirror.old)) date ≡ Ok date }
+
+    // A day that the station stopped wrote nothing either, or its files make a gazetteer.
+    ensures stopped { IfErr result (λ fault. fault ≡ StationFault → OnlyReads (T.view station.old) (T.view station.new) ⊎ (IsTrue (T.view station.old).is_told → (first : Gazetteer) → AllHold (T.view station.old) first → IfSome (files_of (F.view shelf.new)) (λ files. IsOk (day_of first files date)))) }
 
     // Damage only where the areas mirror no gazetteer.
     ensures damaged { IfErr result (λ fault. IsTrue (T.view station.old).is_told → (gaz : Gazetteer) → Mirrors (T.view station.old).bytes gaz → IsSound fault) }

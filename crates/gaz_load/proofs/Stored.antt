@@ -1,6 +1,6 @@
 -- A load from its files to its commit: what the lines made of the idle area is the next gazetteer, and its root may be installed.
 use Rattle.std.proofs.Common.{◌≡◌, ◌≢◌, ◌≤◌, ◌<◌, ◌-◌, ◌*◌, ℕ, zero, suc, List, [], length, refl, sym, ◌∙◌, subst, arith, inl, None, Option, Ok, Err, Result}
-use Rattle.std.specs.Prelude.{IfSome, IfErr, OnOk}
+use Rattle.std.specs.Prelude.{IsOk, IfSome, IfErr, OnOk}
 use Rattle.gaz_num.specs.Refusal.{Refusal}
 use Rattle.gaz_outside.specs.declared.station.Area.{Area}
 use Rattle.gaz_outside.specs.Outside.{ShelfView, files_of}
@@ -160,3 +160,12 @@ module _ (before : Option Root) (v0 v1 : StationView) (fits : Fits before v0) (r
     load_committed next v2 (Ok done) known commits after of_pages still = committed before v0 v1 fits run defined shelf first holds next v2 known commits after
     load_committed next v2 (Err fault) known commits after of_pages still =
         failed before v0 v1 fits run defined shelf first holds next v2 known commits fault (by_pages (λ f. refusal_by f ≡ None) refl (λ page. refl) refl fault of_pages) still
+
+-- what holds of each fault
+pub of_err : (r : Result Unit ChangeFault) (P : ChangeFault → Type 0) → ((fault : ChangeFault) → P fault) → IfErr r P
+of_err (Ok done) P each = tt
+of_err (Err fault) P each = each fault
+
+-- a known answer is one
+pub ok_is : (r : Result Gazetteer Refusal) (gaz : Gazetteer) → r ≡ Ok gaz → IsOk r
+ok_is r gaz is = subst (λ (x : Result Gazetteer Refusal). IsOk x) (sym is) refl

@@ -1,5 +1,5 @@
 //! The lines of a dump are stepped into a new store in the idle area, which then takes the place of the old one.
-ghost use Rattle.std.specs.Prelude.{◌≡◌, ◌≢◌, ◌^◌, ◌≤◌, ℕ, List, Ok, Some, [], IsTrue, IfOk, IfErr, IfSome, OnOk, OnErr, length};
+ghost use Rattle.std.specs.Prelude.{◌≡◌, ◌≢◌, ◌⊎◌, ◌^◌, ◌≤◌, ℕ, List, Ok, Some, [], IsTrue, IfOk, IfErr, IfSome, OnOk, OnErr, IsOk, length};
 ghost use Rattle.gaz_outside.specs.declared.station.Area.{Area};
 ghost use Rattle.gaz_outside.specs.Outside.{FindsFiles, SameFiles, files_of};
 ghost use Rattle.gaz_outside.specs.Station.{LeavesOnly};
@@ -220,6 +220,7 @@ fn load_opened<F: Shelf, T: Station>(
     ensures fits { IsTrue (T.view station.old).is_told → IsOutside result → Fits (root_of mirror.new) (T.view station.new) }
     ensures refused { IfErr result (λ fault. root_of mirror.new ≡ root_of mirror.old) }
     ensures unwritten { IfErr result (λ fault. fault ≢ StationFault → OnlyReads (T.view station.old) (T.view station.new)) }
+    ensures stopped { IfErr result (λ fault. fault ≡ StationFault → OnlyReads (T.view station.old) (T.view station.new) ⊎ (IsTrue (T.view station.old).is_told → IfSome (files_of (F.view shelf.new)) (λ files. IsOk (fold_named files load_files (dated empty date))))) }
     ensures sound { IfErr result (λ fault. IsTrue (T.view station.old).is_told → IsSound fault) }
     ensures counts { OnlyRise (T.view station.old) (T.view station.new) }
     ensures cause { FailsOnce (T.view station.old).faults (T.view station.new).faults result }
@@ -269,6 +270,7 @@ fn open_and_load<F: Shelf, T: Station>(
     ensures fits { IsTrue (T.view station.old).is_told → IsOutside result → Fits (root_of mirror.new) (T.view station.new) }
     ensures refused { IfErr result (λ fault. root_of mirror.new ≡ root_of mirror.old) }
     ensures unwritten { IfErr result (λ fault. fault ≢ StationFault → OnlyReads (T.view station.old) (T.view station.new)) }
+    ensures stopped { IfErr result (λ fault. fault ≡ StationFault → OnlyReads (T.view station.old) (T.view station.new) ⊎ (IsTrue (T.view station.old).is_told → IfSome (files_of (F.view shelf.new)) (λ files. IsOk (load_of files date)))) }
     ensures sound { IfErr result (λ fault. IsTrue (T.view station.old).is_told → IsSound fault) }
     ensures counts { OnlyRise (T.view station.old) (T.view station.new) }
     ensures cause { FailsOnce (T.view station.old).faults (T.view station.new).faults result }
@@ -312,6 +314,9 @@ pub fn load<F: Shelf, T: Station>(
 
     // A load that is refused writes nothing.
     ensures unwritten { IfErr result (λ fault. fault ≢ StationFault → OnlyReads (T.view station.old) (T.view station.new)) }
+
+    // One that the station stopped wrote nothing either, or its files make a gazetteer.
+    ensures stopped { IfErr result (λ fault. fault ≡ StationFault → OnlyReads (T.view station.old) (T.view station.new) ⊎ (IsTrue (T.view station.old).is_told → IfSome (files_of (F.view shelf.new)) (λ files. IsOk (load_of files date)))) }
 
     // The new pages are never damaged.
     ensures sound { IfErr result (λ fault. IsTrue (T.view station.old).is_told → IsSound fault) }

@@ -1,5 +1,5 @@
-use Rattle.std.proofs.Common.{◌≡◌, ◌≢◌, ◌≤◌, ◌*◌, ◌+◌, ◌∙◌, ◌++◌, ℕ, List, length, Some, Ok, Option, IsTrue, refl, sym, ap, subst, arith}
-use Rattle.std.specs.Prelude.{IfSome}
+use Rattle.std.proofs.Common.{inr, ◌≡◌, ◌≢◌, ◌≤◌, ◌*◌, ◌+◌, ◌∙◌, ◌++◌, ℕ, List, length, Some, Ok, Option, IsTrue, refl, sym, ap, subst, arith}
+use Rattle.std.specs.Prelude.{IfSome, IfErr, Result, Err}
 use Rattle.std.proofs.lemmas.List.{length-append}
 use Rattle.gaz_num.specs.declared.words.FileName.{FileName}
 use Rattle.gaz_outside.specs.declared.station.Area.{Area}
@@ -12,12 +12,13 @@ use Rattle.gaz_pages.specs.Fits.{Fits}
 use Rattle.gaz_pages.specs.Held.{root_of}
 use Rattle.gaz_plain.specs.Gazetteer.{Gazetteer}
 use Rattle.gaz_plain.specs.Load.{day_files}
+use Rattle.gaz_rows.specs.declared.fault.ChangeFault.{ChangeFault}
 use Rattle.gaz_rows.specs.Holds.{AllHold, IsOldOrNext}
 use Rattle.gaz_change.specs.Change.{AreThere, lines_of}
 use Rattle.gaz_change.proofs.Changing.{weaker}
 use Rattle.gaz_install.specs.Next.{MayCommit, IsNext, IsInstallFault}
 use Rattle.gaz_install.proofs.ByKind.{files_dateless, named_ends, after_outside, on_ok, if_err}
-use Rattle.gaz_day.proofs.Day.{fits_now, may_commit, day_ended, day_installed, installs_dateless, still_held, still_fits, fold_is_sound, install_is_sound}
+use Rattle.gaz_day.proofs.Day.{fits_now, may_commit, day_ended, day_installed, day_makes, installs_dateless, still_held, still_fits, fold_is_sound, install_is_sound}
 use Rattle.gaz_day.proofs.applying.apply_opened.Goals as goal
 
 -- the names are those of the files
@@ -143,3 +144,19 @@ returns-clause-writes g c =
     let by_lines = subst (λ (names : List FileName). length (changed.images ++ changed.past) ≤ 320 * lines_of files names) c.files_of_day-names.ensures few in
     omega (arith, by_lines, all, images_are, same, more))
     (c.in-Ok.ensures.few root_fits.most)
+
+-- of each fault
+of_err : (r : Result Unit ChangeFault) (P : ChangeFault → Type 0) → ((fault : ChangeFault) → P fault) → IfErr r P
+of_err (Ok done) P each = tt
+of_err (Err fault) P each = each fault
+
+-- the station failed behind the fold
+pub returns-clause-stopped : goal.returns-clause-stopped
+returns-clause-stopped g c =
+    of_err c.install.result _ (λ fault is. inr (λ told first holds.
+    let v0 = g.T.Station.view c.args.station.now in
+    let v1 = g.T.Station.view c.fold_day.new.station in
+    let fits = subst (λ (o : Option Root). Fits o v0) c.requires.root (c.requires.fits told) in
+    day_makes c.args.root c.args.date v0 v1 c.fold_day.new.changed c.fold_day.new.now fits (c.fold_day.ensures.reads.areas told) (c.fold_day.ensures.changed told) c.fold_day.ensures.root_now
+    first holds (λ a. g.met.T.Station.may_stay c.args.station.now a told) (g.F.Shelf.view c.fold_day.new.shelf) c.files_of_day-names.result c.files_of_day-names.ensures
+    (λ gaz stands. c.in-Ok.ensures.folds told gaz stands)))

@@ -1,4 +1,4 @@
-use Rattle.std.proofs.Common.{◌≡◌, List, Ok, Err, Option, IsTrue, sym, subst}
+use Rattle.std.proofs.Common.{◌≡◌, inr, List, Ok, Err, Option, IsTrue, sym, subst}
 use Rattle.std.specs.Prelude.{IfSome}
 use Rattle.gaz_num.specs.declared.words.FileName.{FileName}
 use Rattle.gaz_outside.specs.Outside.{files_of}
@@ -12,8 +12,9 @@ use Rattle.gaz_plain.specs.Gazetteer.{Gazetteer, dated, empty}
 use Rattle.gaz_plain.specs.Load.{Files, load_files}
 use Rattle.gaz_rows.specs.Store.{IsStore}
 use Rattle.gaz_change.specs.Change.{fold_named, Gives}
+use Rattle.gaz_change.proofs.Changing.{weaker}
 use Rattle.gaz_install.proofs.ByKind.{on_ok, if_err}
-use Rattle.gaz_load.proofs.Stored.{fold_fits, fold_holds, load_ended, load_committed}
+use Rattle.gaz_load.proofs.Stored.{fold_fits, fold_holds, load_ended, load_committed, of_err, ok_is}
 use Rattle.gaz_load.proofs.loading.load_opened.Goals as goal
 
 -- the lines weren't all stepped in
@@ -58,3 +59,12 @@ returns-clause-changes g c told first holds =
     (on_ok result _ _ (λ h. h told_now f.next store) c.commit_load.ensures.loaded)
     c.commit_load.ensures.of_pages
     (if_err result _ _ (λ fault h other. h other told_now first held) c.commit_load.ensures.still)
+
+-- the station failed behind the fold
+pub returns-clause-stopped : goal.returns-clause-stopped
+returns-clause-stopped g c =
+    let shelf = g.F.Shelf.view c.fold_load.new.shelf in
+    of_err c.commit_load.result _ (λ fault is. inr (λ told.
+    let f = c.in-Ok.ensures.folds told in
+    weaker (files_of shelf) (λ files h. ok_is _ f.next h)
+    (subst (λ (names : List FileName). IfSome (files_of shelf) (λ files. fold_named files names (dated empty c.args.date) ≡ Ok f.next)) c.files_of_load-names.ensures f.gives)))

@@ -1,5 +1,5 @@
-use Rattle.std.proofs.Common.{◌≡◌, List, Err, subst, refl}
-use Rattle.std.specs.Prelude.{IfSome}
+use Rattle.std.proofs.Common.{◌≡◌, inl, inr, ⊎_elim, List, Err, sym, subst, refl}
+use Rattle.std.specs.Prelude.{IfSome, IsOk}
 use Rattle.gaz_num.specs.declared.words.FileName.{FileName}
 use Rattle.gaz_outside.specs.Outside.{files_of}
 use Rattle.gaz_pages.specs.Held.{root_of}
@@ -8,6 +8,7 @@ use Rattle.gaz_plain.specs.Load.{load, load_files}
 use Rattle.gaz_change.specs.Change.{fold_named, refusal_by}
 use Rattle.gaz_change.proofs.Changing.{weaker}
 use Rattle.gaz_change.proofs.Named.{load_is, unfound_gives}
+use Rattle.gaz_install.proofs.ByKind.{if_err}
 use Rattle.gaz_install.proofs.Whole.{changes_as, unmoved}
 use Rattle.gaz_load.proofs.loading.open_and_load.Goals as goal
 
@@ -33,3 +34,10 @@ returns-clause-changes g c told first holds =
     changes_as (λ gaz files. fold_named files load_files (dated empty date)) (λ gaz files. load files date) first shelf shelf
     (g.T.Station.view c.args.station.now) (g.T.Station.view c.load_opened.new.station) c.load_opened.result (λ files. load_is files date) refl
     (c.load_opened.ensures.changes told first holds)
+
+pub returns-clause-stopped : goal.returns-clause-stopped
+returns-clause-stopped g c =
+    let shelf = g.F.Shelf.view c.load_opened.new.shelf in
+    if_err c.load_opened.result _ _
+    (λ fault stops is. ⊎_elim (λ reads. inl reads) (λ well. inr (λ told. weaker (files_of shelf) (λ files h. subst (λ r. IsOk r) (sym (load_is files c.args.date)) h) (well told))) (stops is))
+    c.load_opened.ensures.stopped
