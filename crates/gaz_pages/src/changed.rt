@@ -203,6 +203,7 @@ impl Changed {
         ensures others { OnOk result ((file : List ℕ) (n : ℕ) → n ≢ home.page → imaged home.area (all_images self.new) file n ≡ imaged home.area (all_images self.old) file n) }
         ensures fresh { self.new.fresh ≡ self.old.fresh }
         ensures free { OnOk result (self.new.free ≡ home.page) }
+        ensures kept { OnErr result (self.new.free ≡ self.old.free) }
         ensures few { length (all_images self.new) ≤ length (all_images self.old) + 1 }
         ensures starved { IsStarvedBy self.old.starved self.new.starved result }
         ensures memory { IfErr result (λ fault. fault ≡ Memory) }
