@@ -22,9 +22,10 @@ job() { # the jobs say which one is under way
 job made_rows "$1"
 job made_dump all
 made_day 1200 40 800 60
-searches=$(asked 1000 2000000)
+# A search by country and code goes over all rows, and children over those of a country.
+walks=$(asked 1000 2000000)
 lists=$(asked 100 20000000)
-made_questions get=100000,100000 admin=100000,100000 hierarchy=50000,50000 "children=$lists,$lists" "${search_kinds[@]/%/=$searches,1000}"
+made_questions get=100000,100000 admin=100000,100000 hierarchy=50000,50000 "children=$lists,$lists" "${key_kinds[@]/%/=1000,1000}" "code=$walks,1000"
 job job_make
 job job_scan
 job job_load indexes

@@ -140,8 +140,9 @@ asked() { # MOST ROWS
     echo "$number"
 }
 
+# The searches that go by keys, and all.
 # shellcheck disable=SC2034 # the scripts ask for so many of each
-search_kinds=(equals starts alternate language box code)
+key_kinds=(equals starts alternate language box) search_kinds=("${key_kinds[@]}" code)
 job_searches() {
     job_ask equals 'searches by a name'
     job_ask starts 'searches by the beginning of a name'

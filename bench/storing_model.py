@@ -6,8 +6,11 @@ docs/FORMAT.md has them, with names by Python's unicodedata. Which lines are ref
 their order. What stands below the 3,000 steps follows from their numbers: the codes that are alike take the slots 0, 1 and 2, a record of more than 4,076
 bytes is a chain, a line has at most 65,535 bytes, and the table of countries 1,024 lines."""
 import itertools
+import os
 import sys
-import unicodedata as u
+
+sys.path.insert(0, os.path.join(os.path.dirname(os.path.abspath(__file__)), "..", "tests", "lib"))
+import index_keys as index  # noqa: E402
 
 NAMES = ["Paris", "PARIS", "Évreux", "évreux", "Łódź", "a name that is longer than the 22 bytes of a key",
          "a name that is longer than the 22 bytes of another", ""]
@@ -77,52 +80,6 @@ class Draws:
         return REFUSED, ""
 
 
-def four(n):
-    return int(n).to_bytes(4, "big")
-
-
-def padded(text, size):
-    return text.encode()[:size].ljust(size, b"\0")
-
-
-def folded(name):
-    return padded(u.normalize("NFD", u.normalize("NFD", name).casefold()), 22)
-
-
-def size_of(degrees):
-    """A coordinate in units of 10^-12 degree."""
-    whole, _, rest = degrees.lstrip("-").partition(".")
-    size = int(whole) * 10 ** 12 + int(rest.ljust(12, "0") or 0)
-    return -size if degrees.startswith("-") else size
-
-
-def path(columns, level):
-    return "".join(columns[n] + "\0" for n in [8, 10, 11, 12, 13][:level + 1])
-
-
-def level_of(columns):
-    """0 for a country row, 1 to 4 for a division, and none of another row."""
-    if columns[6] != "A":
-        return None
-    if columns[7] in ["PCL", "PCLD", "PCLF", "PCLI", "PCLIX", "PCLS"]:
-        return 0
-    return {"ADM1": 1, "ADM2": 2, "ADM3": 3, "ADM4": 4}.get(columns[7])
-
-
-def row_keys(line):
-    columns = line.split("\t")
-    id = four(columns[0])
-    yield b"\1" + id
-    yield b"\7" + folded(columns[1]) + b"\0" + id + four(0)
-    yield b"\7" + folded(columns[2]) + b"\1" + id + four(0)
-    band = (size_of(columns[4]) + 90 * 10 ** 12) // (25 * 10 ** 10)
-    yield b"\10" + band.to_bytes(2, "big") + (size_of(columns[5]) + 180 * 10 ** 12).to_bytes(8, "big") + id
-    level = level_of(columns)
-    if level is not None:
-        yield b"\11" + bytes([level]) + padded(path(columns, level), 26) + id
-    yield b"\12" + padded(path(columns, 4), 27) + id
-
-
 class Tables:
     def __init__(self):
         self.rows, self.alternates, self.links, self.countries, self.codes = {}, {}, {}, {}, {}
@@ -142,30 +99,29 @@ class Tables:
         elif kind == ALT_GONE:
             self.alternates.pop(int(columns[0]), None)
         elif kind == LINK:
-            type = columns[2] if len(columns) > 2 else ""
-            self.links[int(columns[1]), {"ADM": 0, "": 1}.get(type, 2), int(columns[0])] = line
+            self.links[index.link_ends(line)] = line
         elif kind == COUNTRY and line and line[0] != "#":
             self.countries[columns[0]] = line
         elif kind == CODE:
             if columns[0] not in self.codes:
-                taken = [slot for code, slot in self.slots.items() if padded(code, 23) == padded(columns[0], 23)]
+                taken = [slot for code, slot in self.slots.items() if index.padded(code, 23) == index.padded(columns[0], 23)]
                 self.slots[columns[0]] = next(n for n in itertools.count() if n not in taken)
             self.codes[columns[0]] = line
 
     def keys(self):
         for line in self.rows.values():
-            yield from row_keys(line)
+            yield index.row_key(line)
+            yield from index.keys_beside_row(line)
         for line in self.alternates.values():
-            columns = line.split("\t")
-            yield b"\2" + four(columns[0])
-            yield b"\7" + folded(columns[3]) + b"\2" + four(columns[1]) + four(columns[0])
-        for child, type, parent in self.links:
-            yield b"\3" + four(child) + bytes([type]) + four(parent)
-            yield b"\4" + four(parent) + bytes([type]) + four(child)
-        for code in self.countries:
-            yield b"\5" + padded(code, 4)
-        for code in self.codes:
-            yield b"\6" + padded(code, 23) + four(0) + four(self.slots[code])
+            yield index.alternate_key(line)
+            yield from index.keys_beside_alternate(line)
+        for line in self.links.values():
+            yield index.link_key(line)
+            yield from index.keys_beside_link(line)
+        for line in self.countries.values():
+            yield index.country_key(line)
+        for code, line in self.codes.items():
+            yield index.code_key(line, self.slots[code])
 
     def tell(self, steps):
         keys = sorted(key.ljust(32, b"\0") for key in self.keys())

@@ -123,8 +123,8 @@ if command -v cc > /dev/null && cc -shared -fPIC -o short.so short.c -ldl 2> cc.
             grep -q '^short$' ../told || break
             met=$((met + 1))
         done
-        check "some_short_$call" $((met > 3 && met < 60)) 1
-        echo "$call was short at each of its $met calls"
+        check "some_short_$call" $((met > 3)) 1
+        echo "$call was short at each of its first $met calls"
     done
     cd ..
 else

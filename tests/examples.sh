@@ -7,7 +7,7 @@ set -u
 session() { wanted="    \$ $1" awk '$0 == ENVIRON["wanted"] { inside = 1; next } inside && (/^$/ || /^    \$ /) { exit } inside { print substr($0, 5) }' "$top/README.md"; }
 
 # shellcheck disable=SC2016 # it stands so in the README
-check a_trial "$(mkdir "$folder/trial" && cd "$folder/trial" && "$program" trial 7 20000 < /dev/null)" "$(session '(gaz=$PWD/gaz; cd "$(mktemp -d)" && $gaz trial 7 20000)')"
+check a_trial "$(mkdir "$folder/trial" && cd "$folder/trial" && "$program" trial 7 2000 < /dev/null)" "$(session '(gaz=$PWD/gaz; cd "$(mktemp -d)" && $gaz trial 7 2000)')"
 check scan_of_three_places "$("$program" scan 2 < "$top/examples/three_places.txt")" "$(session './gaz scan 2 < examples/three_places.txt')"
 
 # In a copy, as there: the mirror that it leaves isn't to lie among the examples, nor to be found by the next run of this.

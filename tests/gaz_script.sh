@@ -19,7 +19,7 @@ case \$1 in
     lib) [ ! -e "$folder/lib_fails" ] || { echo 'the messages of rt'; exit 1; } ;;
     run) cat < "$folder/program" > out/gaz_main; chmod +x out/gaz_main ;;
     try)
-        shift 2
+        shift 4
         [ ! -e "$folder/try_fails" ] || { echo 'run=none proved=no' >&2; exit 2; }
         [ ! -e "$folder/try_is_cut" ] || { printf '%s\n' 'checked: no-answer: the program wrote more than 1048576 bytes to standard output' 'run=no-answer proved=no' >&2; exit 2; }
         cd "\$(mktemp -d -p "$folder")" && "$program" "\$@"
@@ -83,7 +83,7 @@ done
 unbuilt
 check an_unproved_scan "$(gaz "$folder/tools" scan 5 < /dev/null)" $'ok 0\nstatus 0'
 check it_says_so "$(says 'is run unproved')$(says 'gaz prove')" 11
-check by_rt_try "$(sed 's/.*crates/crates/' asked)" 'crates/gaz_main try -- scan 5'
+check by_rt_try "$(sed 's/.*crates/crates/' asked)" 'crates/gaz_main try --seconds 600 -- scan 5'
 check an_unproved_refusal "$(gaz "$folder/tools" scan 5 <<< x)" $'refused malformed - 1 columns\nstatus 1'
 check unproved_words_that_are_none "$(gaz "$folder/tools" scan x < /dev/null)" 'status 2'
 # (a line of the input is longer than rt try would hand on)
@@ -128,8 +128,8 @@ if command -v rt > /dev/null; then
     got=$(real/gaz scan 2 < "$top/examples/three_places.txt" 2> why; echo "status $?")
     check a_real_unproved_scan "$got" "$("$program" scan 2 < "$top/examples/three_places.txt")"$'\nstatus 0'
     mkdir a_trial of_the_program
-    got=$(cd a_trial && ../real/gaz trial 7 20000 2> ../why < /dev/null; echo "status $?")
-    check a_real_unproved_trial "$got $(ls -A a_trial)" "$(cd of_the_program && "$program" trial 7 20000 < /dev/null)"$'\nstatus 0 '
+    got=$(cd a_trial && ../real/gaz trial 7 2000 2> ../why < /dev/null; echo "status $?")
+    check a_real_unproved_trial "$got $(ls -A a_trial)" "$(cd of_the_program && "$program" trial 7 2000 < /dev/null)"$'\nstatus 0 '
 fi
 
 finish

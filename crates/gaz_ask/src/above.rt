@@ -1,11 +1,12 @@
 //! The chain of a place.
-ghost use Rattle.std.specs.Prelude.{◌≡◌, ◌≤◌, ◌∷◌, [], length, take, None, IsTrue, IsSome, IfOk, IfErr};
+ghost use Rattle.std.specs.Prelude.{◌≡◌, ◌≤◌, ◌+◌, ◌∷◌, [], length, take, None, IsTrue, IsSome, IfOk, IfErr};
 ghost use Rattle.gaz_num.specs.declared.words.Table.TheVariants.{Rows};
 ghost use Rattle.gaz_plain.specs.Gazetteer.{line_with};
 ghost use Rattle.gaz_plain.specs.Kin.{chain_of};
 ghost use Rattle.gaz_pages.specs.Fits.{Fits};
 ghost use Rattle.gaz_pages.specs.Held.{root_of};
 ghost use Rattle.gaz_rows.specs.Store.{IsSound, TakesNoMemory};
+ghost use Rattle.gaz_kin.specs.Reads.{most_for_chain};
 ghost use Rattle.gaz_ask.specs.Asked.{OverMirror, OverLive, HasRead};
 
 use crate::fault::ask_fault;
@@ -30,6 +31,8 @@ fn ask_chain<T: Station>(
     ensures damaged { IfErr result (λ fault. OverLive store.old.pages.extent store.old.root (T.view store.old.pages.station.now) (λ gaz. IsSound fault)) }
     ensures no_memory { IfErr result TakesNoMemory }
     ensures size { length buf.new ≡ length buf.old }
+    ensures reads { OverLive store.old.pages.extent store.old.root (T.view store.old.pages.station.now)
+        (λ gaz. (T.view store.new.pages.station.now).reads ≤ (T.view store.old.pages.station.now).reads + most_for_chain gaz id) }
     ensures leaves { HasRead (T.view store.old.pages.station.now) (T.view store.new.pages.station.now) (root_of store.old.pages.mirror.now) (root_of store.new.pages.mirror.now) result }
 {
     match chain_over(store, id, buf, out) {
@@ -56,6 +59,7 @@ pub fn chain<T: Station>(
     ensures damaged { IfErr result (λ fault. OverMirror (T.view station.old) (λ gaz. IsSound fault)) }
     ensures no_memory { IfErr result TakesNoMemory }
     ensures size { length buf.new ≡ length buf.old }
+    ensures reads { OverMirror (T.view station.old) (λ gaz. (T.view station.new).reads ≤ (T.view station.old).reads + most_for_chain gaz id) }
     ensures leaves { HasRead (T.view station.old) (T.view station.new) (root_of mirror.old) (root_of mirror.new) result }
 {
     let Some(root) = mirror.root() else {

@@ -1,10 +1,11 @@
 //! The children of a place.
-ghost use Rattle.std.specs.Prelude.{◌≡◌, ◌≤◌, length, take, IsTrue, IsSome, IfErr, OnOk};
+ghost use Rattle.std.specs.Prelude.{◌≡◌, ◌≤◌, ◌+◌, length, take, IsTrue, IsSome, IfErr, OnOk};
 ghost use Rattle.gaz_pick.specs.Order.{in_order};
 ghost use Rattle.gaz_plain.specs.Kin.{child_pairs, children_pairs};
 ghost use Rattle.gaz_pages.specs.Fits.{Fits};
 ghost use Rattle.gaz_pages.specs.Held.{root_of};
 ghost use Rattle.gaz_rows.specs.Store.{IsSound, TakesNoMemory};
+ghost use Rattle.gaz_kin.specs.Reads.{most_for_children};
 ghost use Rattle.gaz_ask.specs.Asked.{OverMirror, OverLive, HasRead};
 
 use crate::fault::ask_fault;
@@ -32,6 +33,8 @@ fn ask_children<T: Station>(
     ensures damaged { IfErr result (λ fault. OverLive store.old.pages.extent store.old.root (T.view store.old.pages.station.now) (λ gaz. IsSound fault)) }
     ensures no_memory { IfErr result TakesNoMemory }
     ensures size { length buf.new ≡ length buf.old }
+    ensures reads { OverLive store.old.pages.extent store.old.root (T.view store.old.pages.station.now)
+        (λ gaz. (T.view store.new.pages.station.now).reads ≤ (T.view store.old.pages.station.now).reads + most_for_children gaz id) }
     ensures leaves { HasRead (T.view store.old.pages.station.now) (T.view store.new.pages.station.now) (root_of store.old.pages.mirror.now) (root_of store.new.pages.mirror.now) result }
 {
     match children_over(store, id, max, buf, best) {
@@ -59,6 +62,7 @@ pub fn children<T: Station>(
     ensures damaged { IfErr result (λ fault. OverMirror (T.view station.old) (λ gaz. IsSound fault)) }
     ensures no_memory { IfErr result TakesNoMemory }
     ensures size { length buf.new ≡ length buf.old }
+    ensures reads { OverMirror (T.view station.old) (λ gaz. (T.view station.new).reads ≤ (T.view station.old).reads + most_for_children gaz id) }
     ensures leaves { HasRead (T.view station.old) (T.view station.new) (root_of mirror.old) (root_of mirror.new) result }
 {
     let Some(root) = mirror.root() else {

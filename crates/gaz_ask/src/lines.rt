@@ -1,10 +1,11 @@
 //! The line of a row and that of an admin code.
-ghost use Rattle.std.specs.Prelude.{◌≡◌, ◌≤◌, ◌∷◌, [], length, Some, IsTrue, IsSome, IfOk, IfErr, IfSome};
+ghost use Rattle.std.specs.Prelude.{◌≡◌, ◌≤◌, ◌+◌, ◌*◌, ◌∷◌, [], length, Some, IsTrue, IsSome, IfOk, IfErr, IfSome};
 ghost use Rattle.gaz_num.specs.declared.words.Table.TheVariants.{Rows, Codes};
 ghost use Rattle.gaz_plain.specs.Gazetteer.{line_with};
 ghost use Rattle.gaz_pages.specs.Fits.{Fits};
 ghost use Rattle.gaz_pages.specs.Held.{root_of};
 ghost use Rattle.gaz_rows.specs.Store.{IsAnswer, IsSound, TakesNoMemory};
+ghost use Rattle.gaz_rows.specs.Found.{like_codes};
 ghost use Rattle.gaz_ask.specs.Asked.{OverMirror, OverLive, HasRead};
 
 use gaz_outside::Station;
@@ -25,6 +26,7 @@ fn ask_row<T: Station>(
     ensures damaged { IfErr result (λ fault. OverLive store.old.pages.extent store.old.root (T.view store.old.pages.station.now) (λ gaz. IsSound fault)) }
     ensures no_memory { IfErr result TakesNoMemory }
     ensures size { length buf.new ≡ length buf.old }
+    ensures reads { OverLive store.old.pages.extent store.old.root (T.view store.old.pages.station.now) (λ gaz. (T.view store.new.pages.station.now).reads ≤ (T.view store.old.pages.station.now).reads + 23) }
     ensures leaves { HasRead (T.view store.old.pages.station.now) (T.view store.new.pages.station.now) (root_of store.old.pages.mirror.now) (root_of store.new.pages.mirror.now) result }
 {
     store.get_row(id, buf)
@@ -44,6 +46,7 @@ fn ask_code<T: Station>(
     ensures damaged { IfErr result (λ fault. OverLive store.old.pages.extent store.old.root (T.view store.old.pages.station.now) (λ gaz. IsSound fault)) }
     ensures no_memory { IfErr result TakesNoMemory }
     ensures size { length buf.new ≡ length buf.old }
+    ensures reads { OverLive store.old.pages.extent store.old.root (T.view store.old.pages.station.now) (λ gaz. (T.view store.new.pages.station.now).reads ≤ (T.view store.old.pages.station.now).reads + 29 * (like_codes gaz code.now + 1)) }
     ensures leaves { HasRead (T.view store.old.pages.station.now) (T.view store.new.pages.station.now) (root_of store.old.pages.mirror.now) (root_of store.new.pages.mirror.now) result }
 {
     store.get_code(code, buf)
@@ -64,6 +67,7 @@ pub fn get_row<T: Station>(
     ensures damaged { IfErr result (λ fault. OverMirror (T.view station.old) (λ gaz. IsSound fault)) }
     ensures no_memory { IfErr result TakesNoMemory }
     ensures size { length buf.new ≡ length buf.old }
+    ensures reads { OverMirror (T.view station.old) (λ gaz. (T.view station.new).reads ≤ (T.view station.old).reads + 23) }
     ensures leaves { HasRead (T.view station.old) (T.view station.new) (root_of mirror.old) (root_of mirror.new) result }
 {
     let Some(root) = mirror.root() else {
@@ -90,6 +94,7 @@ pub fn get_code<T: Station>(
     ensures damaged { IfErr result (λ fault. OverMirror (T.view station.old) (λ gaz. IsSound fault)) }
     ensures no_memory { IfErr result TakesNoMemory }
     ensures size { length buf.new ≡ length buf.old }
+    ensures reads { OverMirror (T.view station.old) (λ gaz. (T.view station.new).reads ≤ (T.view station.old).reads + 29 * (like_codes gaz code.now + 1)) }
     ensures leaves { HasRead (T.view station.old) (T.view station.new) (root_of mirror.old) (root_of mirror.new) result }
 {
     let Some(root) = mirror.root() else {

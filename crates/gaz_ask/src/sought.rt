@@ -5,6 +5,7 @@ ghost use Rattle.gaz_pick.specs.Order.{in_order};
 ghost use Rattle.gaz_plain.specs.Search.{matching_pairs, answer_pairs};
 ghost use Rattle.gaz_pages.specs.Fits.{Fits};
 ghost use Rattle.gaz_pages.specs.Held.{root_of};
+ghost use Rattle.gaz_plan.specs.Candidates.{most_reads};
 ghost use Rattle.gaz_rows.specs.Store.{IsUndamaged, TakesNoMemory};
 ghost use Rattle.gaz_ask.specs.Asked.{OverMirror, OverLive, HasRead};
 
@@ -36,6 +37,8 @@ fn ask_search<T: Station>(
     ensures absent { (asked query.now).name ≡ absent → IfErr result TakesNoMemory }
     ensures damaged { IfErr result (λ fault. OverLive store.old.pages.extent store.old.root (T.view store.old.pages.station.now) (λ gaz. IsUndamaged fault)) }
     ensures size { length buf.new ≡ length buf.old }
+    ensures reads { OverLive store.old.pages.extent store.old.root (T.view store.old.pages.station.now)
+        (λ gaz. (T.view store.new.pages.station.now).reads ≤ (T.view store.old.pages.station.now).reads + most_reads gaz (asked query.now)) }
     ensures leaves { HasRead (T.view store.old.pages.station.now) (T.view store.new.pages.station.now) (root_of store.old.pages.mirror.now) (root_of store.new.pages.mirror.now) result }
 {
     search_over(alloc, store, query, buf, best)
@@ -63,6 +66,7 @@ pub fn search<T: Station>(
     ensures absent { (asked query.now).name ≡ absent → IfErr result TakesNoMemory }
     ensures damaged { IfErr result (λ fault. OverMirror (T.view station.old) (λ gaz. IsUndamaged fault)) }
     ensures size { length buf.new ≡ length buf.old }
+    ensures reads { OverMirror (T.view station.old) (λ gaz. (T.view station.new).reads ≤ (T.view station.old).reads + most_reads gaz (asked query.now)) }
     ensures leaves { HasRead (T.view station.old) (T.view station.new) (root_of mirror.old) (root_of mirror.new) result }
 {
     let Some(root) = mirror.root() else {

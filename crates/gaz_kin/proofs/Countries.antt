@@ -171,8 +171,8 @@ module _ (gaz : Gazetteer) (is : IsGazetteer gaz) (one_each : IsOneEach gaz) (id
     pub part : (p : Pair) → Contains rest p → Contains left p
     pub goes_on : (new : List Picked) → SeesMore gaz id keep (is_named_among gaz rest id) now new → SeesMore gaz id keep (is_named_among gaz left id) start new
 
-  pub waiting_first : (pages : ℕ → List ℕ) (scan : Scan) (left : List Pair) (start : List Picked) → Comes pages scan left → AreWaiting 0 pages scan left start start
-  waiting_first pages scan left start comes = record { rest = left; comes = comes; count = omega arith; part = λ p has. has; goes_on = λ new more. more }
+  pub waiting_first : (pages : ℕ → List ℕ) (scan : Scan) (left : List Pair) (start : List Picked) → Comes pages scan left → (p : AreWaiting 0 pages scan left start start) × (p.rest ≡ left)
+  waiting_first pages scan left start comes = (record { rest = left; comes = comes; count = omega arith; part = λ p has. has; goes_on = λ new more. more }, refl)
 
   -- a country that names the place is this one or among the others
   this_or_other : (pair : Pair) (rest : List Pair) (line : List ℕ) → Contains gaz.countries line → pair.key ≡ number_of line → (row : List ℕ) → is_named_among gaz (pair ∷ rest) id row ≡ true
@@ -193,22 +193,24 @@ module _ (gaz : Gazetteer) (is : IsGazetteer gaz) (one_each : IsOneEach gaz) (id
   module _ (turns : ℕ) (old : ℕ → List ℕ) (scan : Scan) (left : List Pair) (start now : List Picked) (p : AreWaiting turns old scan left start now) where
     -- One more came, and the rows of which it is the country were seen, if it names the place.
     pub waiting_on : {P : List ℕ → Type 0} (mid new : ℕ → List ℕ) (scan_now : Scan) (after : List Picked) → new ≡ mid → (n : IsNextCountry gaz mid scan_now p.rest P)
-        → SeesMore gaz id keep (λ row. names (column 9 row) id n.line) now after → AreWaiting (turns + 1) new scan_now left start after
+        → SeesMore gaz id keep (λ row. names (column 9 row) id n.line) now after → (q : AreWaiting (turns + 1) new scan_now left start after) × (q.rest ≡ n.rest)
     waiting_on mid new scan_now after same n sees_one =
         let before = p.count in
-        let one = ap length n.first in
-        record {
-          rest = n.rest;
-          comes = subst (λ pages. Comes pages scan_now n.rest) (sym same) n.comes;
-          count = omega (arith, before, one);
-          part = λ q has. p.part q (subst (λ pairs. Contains pairs q) (sym n.first) (tail_is_in n.pair n.rest q has));
-          goes_on = λ later more.
-              p.goes_on later
-              (subst (λ pairs. SeesMore gaz id keep (is_named_among gaz pairs id) now later) (sym n.first)
-              (sees gaz is id keep (λ row. names (column 9 row) id n.line || is_named_among gaz n.rest id row) (is_named_among gaz (n.pair ∷ n.rest) id) now later
-              (sees_both gaz is id keep (λ row. names (column 9 row) id n.line) (is_named_among gaz n.rest id) now after later sees_one more)
-              (λ row at child named. this_or_other n.pair n.rest n.line n.there n.at row named)));
-        }
+        let one = ap length n.first in (
+          record {
+            rest = n.rest;
+            comes = subst (λ pages. Comes pages scan_now n.rest) (sym same) n.comes;
+            count = omega (arith, before, one);
+            part = λ q has. p.part q (subst (λ pairs. Contains pairs q) (sym n.first) (tail_is_in n.pair n.rest q has));
+            goes_on = λ later more.
+                p.goes_on later
+                (subst (λ pairs. SeesMore gaz id keep (is_named_among gaz pairs id) now later) (sym n.first)
+                (sees gaz is id keep (λ row. names (column 9 row) id n.line || is_named_among gaz n.rest id row) (is_named_among gaz (n.pair ∷ n.rest) id) now later
+                (sees_both gaz is id keep (λ row. names (column 9 row) id n.line) (is_named_among gaz n.rest id) now after later sees_one more)
+                (λ row at child named. this_or_other n.pair n.rest n.line n.there n.at row named)));
+          },
+          refl,
+        )
 
     pub waiting_none : p.rest ≡ [] → SeesMore gaz id keep (is_named_among gaz left id) start now
     waiting_none ends =

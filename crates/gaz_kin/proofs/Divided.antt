@@ -1,6 +1,8 @@
 -- The divisions of a path and the country rows of a country, as the range of their keys has them.
-use Rattle.std.proofs.Common.{◌≡◌, ◌<◌, ◌≤◌, ◌+◌, ◌-◌, ◌^◌, ℕ, zero, suc, true, false, List, [], ◌∷◌, ◌++◌, length, map, flat_map, refl, sym, ◌∙◌, ap, ap₂, arith, subst, inl, inr, Option, Some, None, length-append}
-use Rattle.std.specs.Prelude.{Contains, find, codes}
+use Rattle.std.proofs.Common.{◌≡◌, ◌<◌, ◌≤◌, ◌+◌, ◌-◌, ◌^◌, ℕ, zero, suc, Bool, true, false, List, [], ◌∷◌, ◌++◌, length, take, drop, map, filter, flat_map, refl, sym, ◌∙◌, ap, ap₂, arith, subst, inl, inr, Option, Some, None, length-append}
+use Rattle.std.specs.Prelude.{Contains, slice_index, find, codes}
+use Rattle.std.proofs.Math.Seq.{take-append_seam}
+use Rattle.std.proofs.lemmas.Bool.{and_from, eq-eqb}
 use Rattle.std.specs.Int.{w32, to_be_bytes}
 use Rattle.std.specs.List.{list_all}
 use Rattle.std.specs.Str.{bytes_eq}
@@ -12,10 +14,11 @@ use Rattle.gaz_num.specs.declared.words.Table.{Table}
 use Rattle.gaz_num.specs.declared.words.Table.TheVariants.{Rows, Alternates, Links, Countries, Codes}
 use Rattle.gaz_name.specs.Name.{first_bytes}
 use Rattle.gaz_row.specs.Row.{id_of}
-use Rattle.gaz_parent.specs.Parent.{is_administrative, is_political, is_country_row, code_level, level_of, is_this, path_columns, is_division_of, least_other}
+use Rattle.gaz_parent.specs.Parent.{is_administrative, is_political, is_country_row, code_level, level_of, is_this, path_columns, is_division_of, least, least_other}
 use Rattle.gaz_pick.proofs.OrderLemmas.{by_test}
 use Rattle.gaz_plain.specs.Gazetteer.{Gazetteer, lines_in}
 use Rattle.gaz_plain.specs.Kin.{lists_of}
+use Rattle.gaz_plain.specs.Ordered.{IdsRise}
 use Rattle.gaz_plain.proofs.Sought.{level_is, found_in}
 use Rattle.gaz_plain.proofs.Foremost.{row_at, found_id}
 use Rattle.gaz_page.specs.declared.tree_root.Root.{Root}
@@ -30,15 +33,18 @@ use Rattle.gaz_keys.proofs.Tags.{contained, contained_none, tag_for, tag_at, one
 use Rattle.gaz_rows.specs.Index.{Slots, line_keys}
 use Rattle.gaz_rows.specs.Store.{IsStore}
 use Rattle.gaz_rows.proofs.Counting.{map_contains, few_pairs}
+use Rattle.gaz_rows.proofs.Finding.{kept_in}
 use Rattle.gaz_rows.proofs.Fit.{keyed}
 use Rattle.gaz_rows.proofs.Members.{head_is_in, tail_is_in}
 use Rattle.gaz_rows.proofs.Numbers.{same_key}
 use Rattle.gaz_kin.specs.declared.ids.Part.TheVariants.{Last}
 use Rattle.gaz_kin.specs.Ids.{id_in_key, ids_in}
 use Rattle.gaz_kin.specs.Above.{is_above, fits_at, may_be_above}
+use Rattle.gaz_kin.specs.Kept.{least_of_all}
+use Rattle.gaz_kin.specs.Reads.{is_alike, alike_at}
 use Rattle.gaz_kin.proofs.Numbers.{end_added, end_read, end_rest}
 use Rattle.gaz_kin.proofs.Indexed.{is_line, each_in, pair_in, range, range_within}
-use Rattle.gaz_kin.proofs.Seeking.{first_is_least, has_among, ids_rise}
+use Rattle.gaz_kin.proofs.Seeking.{first_is_least, as_pairs, has_among, ids_rise}
 
 -- ---- which lines have keys with the tag of divisions
 
@@ -46,6 +52,7 @@ use Rattle.gaz_kin.proofs.Seeking.{first_is_least, has_among, ids_rise}
 pub record IsDivisionKey (table : Table) (line key : List ℕ) : Type 0 where
   pub is_row : table ≡ Rows
   pub level : ℕ
+  pub leveled : division_level line ≡ Some level
   pub is : key ≡ division_key level (first_bytes 26 (path_to level line)) (id_at 1 line)
 
 no_place_tag : (table : Table) → tag_for table ≡ 9 → ⊥
@@ -61,13 +68,13 @@ IsIfTagged table line key = tag_of key ≡ 9 → IsDivisionKey table line key
 none_tagged : (table : Table) (line key : List ℕ) → Contains [] key → IsIfTagged table line key
 none_tagged table line key has = absurd (contained_none key has)
 
-of_division : (line : List ℕ) (level : Option ℕ) (key : List ℕ) → Contains (division_keys line level) key → IsIfTagged Rows line key
-of_division line None key has = none_tagged Rows line key has
-of_division line (Some level) key has = one_of (IsIfTagged Rows line) _ [] key (λ tag. record { is_row = refl; level = level; is = refl }) (none_tagged Rows line) has
+of_division : (line : List ℕ) (level : Option ℕ) (key : List ℕ) → division_level line ≡ level → Contains (division_keys line level) key → IsIfTagged Rows line key
+of_division line None key at has = none_tagged Rows line key has
+of_division line (Some level) key at has = one_of (IsIfTagged Rows line) _ [] key (λ tag. record { is_row = refl; level = level; leveled = at; is = refl }) (none_tagged Rows line) has
 
 of_more : (table : Table) (line key : List ℕ) → Contains (more_keys table line) key → IsIfTagged table line key
 unfolding text_key box_key path_key reverse_key
-of_more Rows line key has = in_more_keys (IsIfTagged Rows line) line key (λ tag. absurd (omega (arith, tag))) (λ tag. absurd (omega (arith, tag))) (λ tag. absurd (omega (arith, tag))) (λ tag. absurd (omega (arith, tag))) (λ other. of_division line (division_level line) other) has
+of_more Rows line key has = in_more_keys (IsIfTagged Rows line) line key (λ tag. absurd (omega (arith, tag))) (λ tag. absurd (omega (arith, tag))) (λ tag. absurd (omega (arith, tag))) (λ tag. absurd (omega (arith, tag))) (λ other. of_division line (division_level line) other refl) has
 of_more Alternates line key has = one_of (IsIfTagged Alternates line) _ [] key (λ tag. absurd (omega (arith, tag))) (none_tagged Alternates line) has
 of_more Links line key has = one_of (IsIfTagged Links line) _ [] key (λ tag. absurd (omega (arith, tag))) (none_tagged Links line) has
 of_more Countries line key has = none_tagged Countries line key has
@@ -167,16 +174,31 @@ module _ (gaz : Gazetteer) (v : PagesView) (root : Root) (stands : IsStore gaz v
   unfolding division_key
   id_read level first id long small = end_read (9 ∷ level ∷ first) (omega (arith, long)) id small
 
+  level_read : (level : ℕ) (first : List ℕ) (id : ℕ) → slice_index (division_key level first id) 1 ≡ level
+  unfolding division_key
+  level_read level first id = refl
+
+  first_read : (level : ℕ) (first : List ℕ) (id : ℕ) → length first ≡ 26 → take 26 (drop 2 (division_key level first id)) ≡ first
+  unfolding division_key
+  first_read level first id long = ap (λ n. take n (first ++ to_be_bytes w32 id)) (sym long) ∙ take-append_seam first (to_be_bytes w32 id)
+
   -- A pair is there for such a row, and has its id.
   pub record IsDivided (p : Pair) : Type 0 where
     pub line : List ℕ
     pub there : Contains gaz.rows line
+    pub alike : is_alike level row line ≡ true
     pub at : p.key ≡ key_of (key (id_at 1 line))
     pub id : id_in_key Last p.key ≡ id_at 1 line
 
   id_there : (id : ℕ) → id < 2 ^ 32 → id_in_key Last (key_of (key id)) ≡ id
   unfolding division_key
   id_there id small = end_rest (9 ∷ level ∷ first) front_size id small
+
+  are_alike : (other : List ℕ) (own : ℕ) → division_level other ≡ Some own → own ≡ level → first_bytes 26 (path_to own other) ≡ first_bytes 26 (path_to level row) → is_alike level row other ≡ true
+  are_alike other own leveled same texts =
+      and_from (is_this level (division_level other)) (bytes_eq (first_bytes 26 (path_to level other)) (first_bytes 26 (path_to level row)))
+      (ap (is_this level) leveled ∙ eq-eqb own level same)
+      ((bytes_eq-Decides (first_bytes 26 (path_to level other)) (first_bytes 26 (path_to level row))).1 (ap (λ l. first_bytes 26 (path_to l other)) (sym same) ∙ texts))
 
   pub each_divided : (p : Pair) → Contains divided_range p → IsDivided p
   each_divided p has =
@@ -195,9 +217,13 @@ module _ (gaz : Gazetteer) (v : PagesView) (root : Root) (stands : IsStore gaz v
       let id_is : id ≡ id_at 1 of.line =
       sym (id_read level first id size small) ∙ ap (four_at 28) (sym same ∙ division.is) ∙ id_read division.level (first_bytes 26 (path_to division.level of.line)) (id_at 1 of.line) (first_size 26 (path_to division.level of.line)) (id_small 1 of.line) in
       let at : p.key ≡ key_of (key (id_at 1 of.line)) = sym of.is ∙ number ∙ ap (λ n. key_of (key n)) id_is in
+      let own_first = first_bytes 26 (path_to division.level of.line) in
+      let level_is : division.level ≡ level = sym (level_read division.level own_first (id_at 1 of.line)) ∙ ap (λ k. slice_index k 1) (sym division.is ∙ same) ∙ level_read level first id in
+      let first_of : own_first ≡ first = sym (first_read division.level own_first (id_at 1 of.line) (first_size 26 (path_to division.level of.line))) ∙ ap (λ k. take 26 (drop 2 k)) (sym division.is ∙ same) ∙ first_read level first id size in
       record {
         line = of.line;
         there = subst (λ table. Contains (lines_in gaz table) of.line) division.is_row of.there;
+        alike = are_alike of.line division.level division.leveled level_is (first_of ∙ first_is);
         at = at;
         id = ap (id_in_key Last) at ∙ id_there (id_at 1 of.line) (id_small 1 of.line);
       }
@@ -215,6 +241,17 @@ module _ (gaz : Gazetteer) (v : PagesView) (root : Root) (stands : IsStore gaz v
       (omega (arith, here)) (omega (arith, here, last, small)) in
       subst (Contains (ids_in Last divided_range)) (id_there id small) (map_contains (λ q. id_in_key Last q.key) divided_range (record { key = key_of (key id); value = pair.0 }) pair.1)
 
+  -- There are no more than rows with such a key.
+  pub divided_few : length divided_range ≤ alike_at gaz row level
+  divided_few =
+      let few = few_pairs 0 (2 ^ 256) divided_range (map (λ line. key_of (key (id_at 1 line))) (filter (is_alike level row) gaz.rows)) (range_within gaz v root stands (key_of (key 0)) (key_of (key (2 ^ 32 - 1))))
+      (λ p has.
+      let is = each_divided p has in
+      subst (Contains (map (λ line. key_of (key (id_at 1 line))) (filter (is_alike level row) gaz.rows))) (sym is.at)
+      (map_contains (λ line. key_of (key (id_at 1 line))) (filter (is_alike level row) gaz.rows) is.line (kept_in (is_alike level row) gaz.rows is.line is.there is.alike)))
+      in
+      omega (arith, few, length-map (filter (is_alike level row) gaz.rows) (λ line. key_of (key (id_at 1 line))))
+
   -- There are no more than rows.
   pub divided_within : length divided_range ≤ root.counts.rows
   divided_within =
@@ -226,12 +263,24 @@ module _ (gaz : Gazetteer) (v : PagesView) (root : Root) (stands : IsStore gaz v
       let counts = ap (λ c. c.rows) stands.counts in
       omega (arith, few, counts, length-map gaz.rows (λ line. key_of (key (id_at 1 line))))
 
-  -- The first id of the range whose row is above and is another one is the least.
-  pub least_above_is : find (fits_at gaz (may_be_above level row)) (ids_in Last divided_range) ≡ least_other (lists_of gaz) (id_of row) (is_above level row)
-  least_above_is = first_is_least (may_be_above level row) gaz.rows (stands.is_gazetteer.tables Rows) (ids_in Last divided_range) (record {
-    rising = ids_rise Last (key_of (key 0)) 1 (omega arith) 0 (2 ^ 256) divided_range (range_within gaz v root stands (key_of (key 0)) (key_of (key (2 ^ 32 - 1))))
-        (λ p has. let is = each_divided p has in let at = is.at in let own = is.id in let here = numbered (id_at 1 is.line) (id_small 1 is.line) in omega (arith, at, own, here));
+  -- The ids rise.
+  ids_rising : IdsRise (as_pairs (ids_in Last divided_range))
+  ids_rising = ids_rise Last (key_of (key 0)) 1 (omega arith) 0 (2 ^ 256) divided_range (range_within gaz v root stands (key_of (key 0)) (key_of (key (2 ^ 32 - 1))))
+      (λ p has. let is = each_divided p has in let at = is.at in let own = is.id in let here = numbered (id_at 1 is.line) (id_small 1 is.line) in omega (arith, at, own, here))
+
+  -- The first of them whose row passes a test is the least, where each row that passes is above.
+  first_that_passes : (may : List ℕ → Bool) → ((other : List ℕ) → may other ≡ true → is_above level row other ≡ true) → find (fits_at gaz may) (ids_in Last divided_range) ≡ least (map id_of (filter may gaz.rows))
+  first_that_passes may above = first_is_least may gaz.rows (stands.is_gazetteer.tables Rows) (ids_in Last divided_range) (record {
+    rising = ids_rising;
     all = λ id other at passes.
         let is_id : id_of other ≡ id = found_id id gaz.rows other (row_at id gaz.rows (stands.is_gazetteer.tables Rows).each ∙ at) in
-        has_among (ids_in Last divided_range) id (subst (Contains (ids_in Last divided_range)) is_id (division_in other (found_in (id ∷ []) other gaz.rows at) (and_left (is_above level row other) _ passes)));
+        has_among (ids_in Last divided_range) id (subst (Contains (ids_in Last divided_range)) is_id (division_in other (found_in (id ∷ []) other gaz.rows at) (above other passes)));
   })
+
+  -- The first id of the range whose row is above and is another one is the least.
+  pub least_above_is : find (fits_at gaz (may_be_above level row)) (ids_in Last divided_range) ≡ least_other (lists_of gaz) (id_of row) (is_above level row)
+  least_above_is = first_that_passes (may_be_above level row) (λ other passes. and_left (is_above level row other) _ passes)
+
+  -- The first whose row is above, were it the row itself, is the least of all.
+  pub least_of_all_is : find (fits_at gaz (is_above level row)) (ids_in Last divided_range) ≡ least_of_all (lists_of gaz) (is_above level row)
+  least_of_all_is = first_that_passes (is_above level row) (λ other passes. passes)

@@ -13,3 +13,9 @@ pub mod Reached
 pub mod Within
 pub mod Offered
 pub mod Countries
+pub mod Sought
+pub mod Squeezed
+pub mod Summed
+pub mod Coded
+pub mod Tabbed
+pub mod Remembered

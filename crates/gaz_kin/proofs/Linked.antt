@@ -69,7 +69,7 @@ class_small Adm = omega arith
 class_small Plain = omega arith
 class_small Other = omega arith
 
-type_small : (type : List ℕ) → class_in type < 256
+pub type_small : (type : List ℕ) → class_in type < 256
 type_small type = by (bytes_eq type (codes "ADM")) (is_empty type)
   where
     by : (a b : Bool) → (if a then 0 else if b then 1 else 2) < 256

@@ -36,7 +36,7 @@ if_some n true found is = is
 if_some n false found is = cc
 
 -- the first level is at most 4
-level_first_low : (row : List ℕ) → first_level row ≤ 4
+pub level_first_low : (row : List ℕ) → first_level row ≤ 4
 level_first_low row = by (is_country_row row) (is_administrative row) (bytes_eq (column 8 row) (codes "ADM1")) (bytes_eq (column 8 row) (codes "ADM2")) (bytes_eq (column 8 row) (codes "ADM3")) (bytes_eq (column 8 row) (codes "ADM4"))
   where
     by : (country administrative a b c d : Bool)

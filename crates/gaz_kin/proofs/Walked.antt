@@ -1,12 +1,12 @@
 -- A walk over the ids in the keys of a range.
-use Rattle.std.proofs.Common.{◌≡◌, ◌≤◌, ◌+◌, ◌*◌, ℕ, Bool, true, false, List, [], length, refl, sym, ◌∙◌, ap, ap₂, arith, Some, None}
+use Rattle.std.proofs.Common.{◌≡◌, ◌≤◌, ◌+◌, ◌*◌, ℕ, Bool, true, false, List, [], ◌∷◌, length, refl, sym, ◌∙◌, ap, ap₂, arith, Some, None}
 use Rattle.std.specs.Prelude.{find}
 use Rattle.gaz_page.specs.declared.tree_root.Root.{Root}
 use Rattle.gaz_leaf.specs.Node.{Pair}
 use Rattle.gaz_scan.specs.declared.scan.Scan.{Scan}
 use Rattle.gaz_scan.specs.Scan.{Comes, tree_of}
 use Rattle.gaz_tree.specs.declared.tree.Tree.{Tree}
-use Rattle.std.proofs.Math.Nat.{mul-le-mul_left}
+use Rattle.std.proofs.Math.Nat.{mul-le-mul, mul-le-mul_left}
 use Rattle.gaz_kin.specs.Over.{each_of}
 use Rattle.gaz_kin.specs.declared.ids.Part.{Part}
 use Rattle.gaz_kin.specs.Ids.{id_in_key, ids_in, IsTested}
@@ -53,9 +53,30 @@ module _ (part : Part) (fits : ℕ → Bool) where
 
 -- ---- how much was read
 
--- a turn more
-pub few_now : (each turns count old mid new : ℕ) → mid ≤ old + each * turns → new ≤ mid + each → turns ≤ count → new ≤ old + each * (count + 1)
-few_now each turns count old mid new before now fewer = let le = mul-le-mul_left each fewer in omega (arith, before, now, le)
+-- a turn for each, and the end
+pub few_now : (each ends turns count old mid new : ℕ) (rest : List Pair) → mid ≤ old + each * turns → new ≤ mid + each → (rest ≡ [] → new ≤ mid + ends) → count ≡ turns + length rest → new ≤ old + (each * count + ends)
+few_now each ends turns count old mid new [] before now last is = let end = last refl in let le = mul-le-mul_left {m = turns} {n = count} each (omega (arith, is)) in omega (arith, before, end, le)
+few_now each ends turns count old mid new (pair ∷ rest) before now last is = let le = mul-le-mul_left {m = turns + 1} {n = count} each (omega (arith, is)) in omega (arith, before, now, le)
+
+-- a turn that looks at a key and at what it leads to
+pub one_more : (height scanned each turns old mid next new : ℕ) → scanned ≡ height → mid ≤ old + (2 * height + each) * turns → next ≤ mid + 2 * scanned → new ≤ next + each → new ≤ old + (2 * height + each) * (turns + 1)
+one_more height scanned each turns old mid next new same before now then = omega (arith, same, before, now, then)
+
+-- no more turns than there are
+pub all_done : (each ends turns count old mid new : ℕ) → turns ≤ count → mid ≤ old + each * turns → new ≤ mid + ends → new ≤ old + (each * count + ends)
+all_done each ends turns count old mid new fewer before now = let le = mul-le-mul_left {m = turns} {n = count} each fewer in omega (arith, before, now, le)
+
+-- the least heights of all
+pub few_in_all : (height scanned count most old new : ℕ) → scanned ≡ height → height ≤ 6 → count ≤ most → new ≤ old + ((2 * scanned + (height + 17)) * count + 2 * scanned) → new ≤ old + (35 * most + 12)
+few_in_all height scanned count most old new same shallow fewer now =
+    let le = mul-le-mul {n₁ = 2 * scanned + (height + 17)} {m₁ = count} {n₂ = 35} {m₂ = most} (omega (arith, same, shallow)) fewer in
+    omega (arith, same, shallow, now, le)
+
+-- so many rows that may be children
+pub few_offered : (height scanned sought count most old new : ℕ) → scanned ≡ height → height ≤ 6 → count ≤ most → new ≤ old + ((2 * scanned + (35 * sought + 153)) * count + 2 * scanned) → new ≤ old + (64 * (most * (sought + 4)) + 12)
+few_offered height scanned sought count most old new same shallow fewer now =
+    let le = mul-le-mul {n₁ = 2 * scanned + (35 * sought + 153)} {m₁ = count} {n₂ = 64 * (sought + 4)} {m₂ = most} (omega (arith, same, shallow)) fewer in
+    omega (arith, same, shallow, now, le)
 
 pub each_same : (a b : Scan) (root other : Root) → tree_of a ≡ tree_of b → root ≡ other → each_of a root ≡ each_of b other
 each_same a b root other tree same = ap₂ (λ (t : Tree) (r : Root). 2 * t.height + (r.height + 17)) tree same

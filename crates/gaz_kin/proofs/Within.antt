@@ -1,10 +1,12 @@
 -- The candidates for children, as the ranges of their keys have them.
-use Rattle.std.proofs.Common.{◌≡◌, ◌<◌, ◌≤◌, ◌+◌, ◌-◌, ◌*◌, ◌^◌, ℕ, Bool, true, List, [], ◌∷◌, ◌++◌, length, take, drop, map, flat_map, replicate, refl, sym, ◌∙◌, ap, ap₂, arith, subst, inl, inr, length-append}
+use Rattle.std.proofs.Common.{◌≡◌, ◌<◌, ◌≤◌, ◌+◌, ◌-◌, ◌*◌, ◌^◌, ℕ, suc, Bool, true, List, [], ◌∷◌, ◌++◌, length, take, drop, map, filter, flat_map, replicate, refl, sym, ◌∙◌, ap, ap₂, arith, subst, inl, inr, length-append}
 use Rattle.std.specs.Prelude.{Contains, ◌==◌, ◌||◌}
 use Rattle.std.specs.Int.{w32, to_be_bytes}
 use Rattle.std.specs.List.{list_any}
 use Rattle.std.proofs.lemmas.Slice.Eq.{bytes_eq-Decides}
-use Rattle.std.proofs.lemmas.List.{length-map, length-take, length-replicate, take-append-drop}
+use Rattle.std.proofs.lemmas.List.{length-map, length-take, length-replicate, take-append-drop, take-append-le}
+use Rattle.std.proofs.Math.Seq.{take-append_seam}
+use Rattle.gaz_kin.proofs.Squeezed.{begins_as}
 use Rattle.std.proofs.lemmas.List.Elements.{All-take, All-replicate}
 use Rattle.gaz_num.specs.Pieces.{column}
 use Rattle.gaz_num.specs.Check.{class_in}
@@ -41,7 +43,10 @@ use Rattle.gaz_kin.specs.Below.{is_one_of, has_beginning}
 use Rattle.gaz_kin.proofs.Numbers.{reverse_number, end_rest}
 use Rattle.gaz_kin.proofs.Bytes.{AtMost, key_most, most_append, four_least, four_most, first_least, first_most}
 use Rattle.gaz_kin.proofs.Indexed.{is_line, each_in, pair_in, range, range_within}
-use Rattle.gaz_kin.proofs.Linked.{any_has, of_is}
+use Rattle.std.proofs.lemmas.Bool.{cases_lt, or_left, or_right}
+use Rattle.gaz_rows.proofs.Finding.{kept_in}
+use Rattle.gaz_kin.specs.Reads.{leads_to, links_down, begins_alike, rows_alike}
+use Rattle.gaz_kin.proofs.Linked.{any_has, is_of, of_is, type_small}
 use Rattle.gaz_kin.proofs.Tagged.{tagged_reverse, tagged_path}
 
 -- an id that is there is one of all
@@ -127,6 +132,46 @@ module _ (gaz : Gazetteer) (v : PagesView) (root : Root) (stands : IsStore gaz v
             subst (Contains (map (λ line. key_of (reverse_key (id_at 1 line) (class_in (column 3 line)) (id_at 2 line))) gaz.links)) (ap key_of (sym reverse.is) ∙ of.is)
             (map_contains (λ line. key_of (reverse_key (id_at 1 line) (class_in (column 3 line)) (id_at 2 line))) gaz.links of.line (subst (λ table. Contains (lines_in gaz table) of.line) reverse.is_link of.there))
 
+    -- They are no more than links that may be followed to the place.
+    pub linked_below_few : length linked_below ≤ links_down gaz id
+    linked_below_few =
+        let few = few_pairs 0 (2 ^ 256) linked_below (map (λ line. key_of (reverse_key (id_at 1 line) (class_in (column 3 line)) (id_at 2 line))) (filter (leads_to id) gaz.links))
+        (range_within gaz v root stands (key_of (reverse_key id 0 0)) (key_of (reverse_key id 1 (2 ^ 32 - 1)))) one in
+        omega (arith, few, length-map (filter (leads_to id) gaz.links) (λ line. key_of (reverse_key (id_at 1 line) (class_in (column 3 line)) (id_at 2 line))))
+      where
+        led : (line : List ℕ) → Contains gaz.links line → key_of (reverse_key id 0 0) ≤ key_of (reverse_key (id_at 1 line) (class_in (column 3 line)) (id_at 2 line))
+            → key_of (reverse_key (id_at 1 line) (class_in (column 3 line)) (id_at 2 line)) ≤ key_of (reverse_key id 1 (2 ^ 32 - 1)) → leads_to id line ≡ true
+        led line there from to =
+            let own = reverse_number (id_at 1 line) (class_in (column 3 line)) (id_at 2 line) (id_small 1 line) (type_small (column 3 line)) (id_small 2 line) in
+            let low = low_number in
+            let high = high_number in
+            let p_small = id_small 1 line in
+            let k_small = type_small (column 3 line) in
+            let c_small = id_small 2 line in
+            let parent : id_at 1 line ≡ id = omega (arith, own, from, to, low, high, p_small, k_small, c_small, id_fits) in
+            let class_low : class_in (column 3 line) ≤ 1 = omega (arith, own, from, to, low, high, p_small, k_small, c_small, id_fits, parent) in
+            elim (cases_lt (class_in (column 3 line)) 1) [
+              | inl adm ↦ or_left (is_link Adm (id_at 2 line) id line) (is_link Plain (id_at 2 line) id line) (is_of Adm (id_at 2 line) id line (is_line gaz v root stands Links line there) (omega (arith, adm)) refl parent)
+              | inr plain ↦ or_right (is_link Adm (id_at 2 line) id line) (is_link Plain (id_at 2 line) id line) (is_of Plain (id_at 2 line) id line (is_line gaz v root stands Links line there) (omega (arith, plain, class_low)) refl parent)
+            ]
+
+        one : (p : Pair) → Contains linked_below p → Contains (map (λ line. key_of (reverse_key (id_at 1 line) (class_in (column 3 line)) (id_at 2 line))) (filter (leads_to id) gaz.links)) p.key
+        one p has =
+            let inside = each_in gaz v root stands (key_of (reverse_key id 0 0)) (key_of (reverse_key id 1 (2 ^ 32 - 1))) p has in
+            let of = inside.of in
+            let from = inside.from in
+            let to = inside.to in
+            let low = low_number in
+            let high = high_number in
+            let fits = keys_fit of.table (stands.slots (column 1 of.line)) of.line of.key (keyed of.table of.line (is_line gaz v root stands of.table of.line of.there)) of.among in
+            let tag : tag_of of.key ≡ 4 = sym (tag_key of.key fits) ∙ ap tag_in of.is ∙ omega (arith, from, to, low, high, id_fits) in
+            let reverse = tagged_reverse stands.slots of.table of.line of.key of.among tag in
+            let there = subst (λ table. Contains (lines_in gaz table) of.line) reverse.is_link of.there in
+            let number = ap key_of (sym reverse.is) ∙ of.is in
+            subst (Contains (map (λ line. key_of (reverse_key (id_at 1 line) (class_in (column 3 line)) (id_at 2 line))) (filter (leads_to id) gaz.links))) number
+            (map_contains (λ line. key_of (reverse_key (id_at 1 line) (class_in (column 3 line)) (id_at 2 line))) (filter (leads_to id) gaz.links) of.line
+            (kept_in (leads_to id) gaz.links of.line there (led of.line there (omega (arith, number, from)) (omega (arith, number, to)))))
+
   -- ---- rows whose paths begin with a text
 
   -- a path has bytes
@@ -190,7 +235,59 @@ module _ (gaz : Gazetteer) (v : PagesView) (root : Root) (stands : IsStore gaz v
             tag_between : (a b c : ℕ) → a ≤ b → b ≤ c → tag_in a ≡ 10 → tag_in c ≡ 10 → tag_in b ≡ 10
             tag_between a b c from to low high = omega (arith, from, to, low, high)
 
+    front_of : (text : List ℕ) (id : ℕ) → length text ≡ 27 → take (suc len) (path_key text id) ≡ 10 ∷ take len text
+    unfolding path_key
+    front_of text id long = ap (λ rest. 10 ∷ rest) (take-append-le len text (to_be_bytes w32 id) (omega (arith, len_low, long)))
+
+    last_front : take len last ≡ take len first
+    last_front =
+        let own : length (take len first) ≡ len = omega (arith, len_low, first_long, length-take len first) in
+        ap (take len) last_is ∙ ap (λ n. take n (take len first ++ replicate (27 - len) 255)) (sym own) ∙ take-append_seam (take len first) (replicate (27 - len) 255)
+
     module _ (text : List ℕ) (front : IsFront 27 text first len) where
+      text_front : take len first ≡ take 27 text
+      text_front =
+          let long : len ≡ length (take 27 text) = omega (arith, front.own, length-take 27 text) in
+          ap (take len) front.are ∙ ap (λ n. take n (first_bytes 27 text)) long ∙ take-append_seam (take 27 text) (replicate (27 - length text) 0)
+
+      alike : (row : List ℕ) → take len (first_bytes 27 (path_to 4 row)) ≡ take len first → begins_alike text row ≡ true
+      alike row same =
+          let long : length (take 27 text) ≡ len = omega (arith, front.own, length-take 27 text) in
+          (bytes_eq-Decides (take (length (take 27 text)) (first_bytes 27 (path_to 4 row))) (take 27 text)).1
+          (ap (λ n. take n (first_bytes 27 (path_to 4 row))) long ∙ same ∙ text_front)
+
+      -- They are no more than rows whose paths begin so.
+      pub beginning_few : length beginning_range ≤ rows_alike gaz text
+      beginning_few =
+          let few = few_pairs 0 (2 ^ 256) beginning_range (map (λ line. key_of (divided_key line)) (filter (begins_alike text) gaz.rows)) (range_within gaz v root stands (key_of (path_key first 0)) (key_of (path_key last (2 ^ 32 - 1)))) one in
+          omega (arith, few, length-map (filter (begins_alike text) gaz.rows) (λ line. key_of (divided_key line)))
+        where
+          tag_between : (a b c : ℕ) → a ≤ b → b ≤ c → tag_in a ≡ 10 → tag_in c ≡ 10 → tag_in b ≡ 10
+          tag_between a b c from to low high = omega (arith, from, to, low, high)
+
+          one : (p : Pair) → Contains beginning_range p → Contains (map (λ line. key_of (divided_key line)) (filter (begins_alike text) gaz.rows)) p.key
+          one p has =
+              let inside = each_in gaz v root stands (key_of (path_key first 0)) (key_of (path_key last (2 ^ 32 - 1))) p has in
+              let of = inside.of in
+              let from = inside.from in
+              let to = inside.to in
+              let low_is = path_is_key first 0 first_long first_fits in
+              let high_is = path_is_key last (2 ^ 32 - 1) last_long last_fits in
+              let low = tag_key (path_key first 0) low_is ∙ path_tag first 0 in
+              let high = tag_key (path_key last (2 ^ 32 - 1)) high_is ∙ path_tag last (2 ^ 32 - 1) in
+              let fits = keys_fit of.table (stands.slots (column 1 of.line)) of.line of.key (keyed of.table of.line (is_line gaz v root stands of.table of.line of.there)) of.among in
+              let tag : tag_of of.key ≡ 10 = sym (tag_key of.key fits) ∙ ap tag_in of.is ∙ tag_between (key_of (path_key first 0)) p.key (key_of (path_key last (2 ^ 32 - 1))) from to low high in
+              let path = tagged_path stands.slots of.table of.line of.key of.among tag in
+              let there = subst (λ table. Contains (lines_in gaz table) of.line) path.is_row of.there in
+              let number = ap key_of (sym path.is) ∙ of.is in
+              let number_is = of.is in
+              let ends : take (suc len) (path_key first 0) ≡ take (suc len) (path_key last (2 ^ 32 - 1)) = front_of first 0 first_long ∙ ap (λ rest. 10 ∷ rest) (sym last_front) ∙ sym (front_of last (2 ^ 32 - 1) last_long) in
+              let begins = begins_as (suc len) (path_key first 0) of.key (path_key last (2 ^ 32 - 1)) low_is fits high_is (omega (arith, number_is, from)) (omega (arith, number_is, to)) ends in
+              let own = first_bytes 27 (path_to 4 of.line) in
+              let same : take len own ≡ take len first = ap (drop 1) (sym (front_of own (id_at 1 of.line) (first_size 27 (path_to 4 of.line))) ∙ ap (take (suc len)) (sym path.is) ∙ begins ∙ front_of first 0 first_long) in
+              subst (Contains (map (λ line. key_of (divided_key line)) (filter (begins_alike text) gaz.rows))) number
+              (map_contains (λ line. key_of (divided_key line)) (filter (begins_alike text) gaz.rows) of.line (kept_in (begins_alike text) gaz.rows of.line there (alike of.line same)))
+
       -- Each row whose path begins with the text has its id there.
       pub beginning_among : (row : List ℕ) → Contains gaz.rows row → has_beginning text row ≡ true → is_one_of (ids_in Last beginning_range) (id_of row) ≡ true
       beginning_among row there is =

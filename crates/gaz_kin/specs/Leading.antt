@@ -2,6 +2,7 @@
 use Rattle.std.proofs.Common.{◌≡◌, ◌+◌, ℕ, [], refl, sym, ◌∙◌, arith, subst, Result, Ok, Err}
 use Rattle.std.specs.Prelude.{IsTrue, ◌↔◌}
 use Rattle.gaz_parent.specs.Parent.{Lists}
+use Rattle.gaz_parent.specs.Questions.{Question}
 use Rattle.gaz_plain.specs.Gazetteer.{Gazetteer}
 use Rattle.gaz_page.specs.declared.tree_root.Root.{Root}
 use Rattle.gaz_page.specs.Pages.{PagesView}
@@ -11,7 +12,10 @@ use Rattle.gaz_rows.specs.Store.{IsStore, IsSound, HasAsked}
 use Rattle.gaz_rows.proofs.Looked.{asked_on, asked_ok}
 use Rattle.gaz_rows.proofs.SteppedOver.{stands_same}
 use Rattle.gaz_kin.specs.Over.{OverStore, HasOnlyAsked}
-use Rattle.gaz_kin.specs.Kin.{HasLists, Led, Fails}
+use Rattle.gaz_kin.specs.declared.kept.Kept.{Kept}
+use Rattle.gaz_kin.specs.Kept.{IsKept}
+use Rattle.gaz_plain.specs.Kin.{lists_of}
+use Rattle.gaz_kin.specs.Kin.{HasLists, HasMost, Led, Noted, Fails}
 
 -- nothing was asked
 pub asked_nothing : {T : Type 0} (v : PagesView) (given : T) → HasAsked 0 v v (Ok given)
@@ -62,6 +66,13 @@ led_same v root = record { root_stays = refl; asked = (0, asked_nothing v tt) }
 pub led_on : (a b c : PagesView) (ra rb rc : Root) → Led a b ra rb → Led b c rb rc → Led a c ra rc
 led_on a b c ra rb rc first then = record { root_stays = then.root_stays ∙ first.root_stays; asked = only_on a b c tt (Ok tt) first.asked then.asked }
 
+pub noted_same : (v : PagesView) (root : Root) (kept : Kept) → Noted v root kept kept
+noted_same v root kept told gaz stands is = is
+
+pub noted_on : (a b : PagesView) (ra rb : Root) (one two three : Kept) → Led a b ra rb → Noted a ra one two → Noted b rb two three → Noted a ra one three
+noted_on a b ra rb one two three led first then told gaz stands is =
+    over_on (λ gaz. IsKept (lists_of gaz) two → IsKept (lists_of gaz) three) a b ra rb tt led.asked led.root_stays then told gaz stands (first told gaz stands is)
+
 pub fails_on : (a b c : PagesView) (ra rb rc : Root) (fault : AskFault) → Led a b ra rb → Fails b c rb rc fault → Fails a c ra rc fault
 fails_on a b c ra rb rc fault first then = record {
   root_stays = then.root_stays ∙ first.root_stays;
@@ -80,4 +91,16 @@ pub lists_on : (a b : PagesView) (ra rb : Root) (lists : Lists) → Led a b ra r
 lists_on a b ra rb lists led = (
   λ has. record { told = told_on a b (Ok tt) led.asked has.told; gaz = has.gaz; stands = store_on has.gaz a b ra rb tt led.asked led.root_stays has.told has.stands; are = has.are },
   λ has. record { told = subst IsTrue led.asked.1.counts.told has.told; gaz = has.gaz; stands = back a b ra rb led has.told has.gaz has.stands; are = has.are },
+)
+
+pub kept_on : (a b : PagesView) (ra rb : Root) (lists : Lists) (old new : Kept) → Led a b ra rb → new ≡ old → (HasLists a ra lists × IsKept lists old ↔ HasLists b rb lists × IsKept lists new)
+kept_on a b ra rb lists old new led same = (
+  λ has. ((lists_on a b ra rb lists led).0 has.0, subst (IsKept lists) (sym same) has.1),
+  λ has. ((lists_on a b ra rb lists led).1 has.0, subst (IsKept lists) same has.1),
+)
+
+pub most_on : (a b : PagesView) (ra rb : Root) (question : Question) (most : ℕ) → Led a b ra rb → (HasMost a ra question most ↔ HasMost b rb question most)
+most_on a b ra rb question most led = (
+  λ has. record { told = told_on a b (Ok tt) led.asked has.told; gaz = has.gaz; stands = store_on has.gaz a b ra rb tt led.asked led.root_stays has.told has.stands; reads = has.reads },
+  λ has. record { told = subst IsTrue led.asked.1.counts.told has.told; gaz = has.gaz; stands = back a b ra rb led has.told has.gaz has.stands; reads = has.reads },
 )

@@ -2,7 +2,9 @@ pub mod Above
 pub mod Below
 pub mod Faults
 pub mod Ids
+pub mod Kept
 pub mod Kin
 pub mod Leading
 pub mod Named
 pub mod Over
+pub mod Reads

@@ -1,6 +1,6 @@
 //! The children of a place, sought among the rows that may be such: those from which a link leads to it, those with its path, and
 //! those of each country whose line names it.
-ghost use Rattle.std.specs.Prelude.{◌≡◌, ◌≤◌, ◌==◌, ◌∷◌, ◌++◌, [], ◌-◌, ℕ, List, length, take, replicate, IfOk, IfErr, OnOk};
+ghost use Rattle.std.specs.Prelude.{◌≡◌, ◌≤◌, ◌==◌, ◌∷◌, ◌++◌, [], ◌+◌, ◌-◌, ◌*◌, ℕ, List, length, take, replicate, IfOk, IfErr, OnOk};
 ghost use Rattle.gaz_num.specs.Pieces.{column};
 ghost use Rattle.gaz_row.specs.Row.{id_of};
 ghost use Rattle.gaz_parent.specs.Chain.{is_child};
@@ -14,11 +14,14 @@ ghost use Rattle.gaz_kin.specs.Below.{is_one_of, has_beginning, is_within, is_na
 ghost use Rattle.gaz_kin.specs.Named.{OverCountries, LooksNamed, SeesCountry};
 ghost use Rattle.gaz_kin.specs.Ids.{ids_in, OverFew};
 ghost use Rattle.gaz_kin.specs.Faults.{as_asked, NotOver};
+ghost use Rattle.gaz_kin.specs.Kept.{IsKept};
 ghost use Rattle.gaz_kin.specs.Over.{OverStore, HasOnlyAsked};
+ghost use Rattle.gaz_kin.specs.Reads.{parents_sought, most_sought, links_down, rows_alike, rows_within, rows_named, rows_of_first, rows_of_pairs, most_for_rows, most_for_children};
 
 use crate::beginning::Beginning;
 use crate::fault::{KinFault, kin_fault};
 use crate::ids::{Part, next_id, turns_for};
+use crate::kept::Kept;
 use crate::kin::parent_of;
 use crate::path::{put_path, put_text};
 use crate::rows::find_row;
@@ -45,20 +48,23 @@ fn is_child<P: Pages>(
     store: &mut RowStore<P>,
     id: u32,
     row: &Row<'_>,
+    kept: &mut Kept,
     buf: &mut [u8],
 ) -> Result<bool, AskFault>
     requires room { 65535 ≤ length buf.old }
-    ensures is { IfOk result (λ is. OverStore (P.view store.old.pages) store.old.root (λ gaz. is ≡ is_child (lists_of gaz) id row.now)) }
+    ensures is { IfOk result (λ is. OverStore (P.view store.old.pages) store.old.root (λ gaz. IsKept (lists_of gaz) kept.old → is ≡ is_child (lists_of gaz) id row.now)) }
+    ensures kept { OnOk result (OverStore (P.view store.old.pages) store.old.root (λ gaz. IsKept (lists_of gaz) kept.old → IsKept (lists_of gaz) kept.new)) }
     ensures damaged { IfErr result (λ fault. OverStore (P.view store.old.pages) store.old.root (λ gaz. IsSound fault)) }
     ensures size { length buf.new ≡ length buf.old }
     ensures asked { HasOnlyAsked (P.view store.old.pages) (P.view store.new.pages) result }
+    ensures few { OverStore (P.view store.old.pages) store.old.root (λ gaz. (P.view store.new.pages).reads ≤ (P.view store.old.pages).reads + (35 * parents_sought gaz row.now + 130)) }
     ensures root { store.new.root ≡ store.old.root }
     ensures keeps { P.keeps store.old.pages store.new.pages }
 {
     if row.class() != ADMINISTRATIVE && row.class() != POPULATED {
         return Ok(false);
     }
-    match parent_of(store, row, buf) {
+    match parent_of(store, row, kept, buf) {
         Ok(above) => Ok(above == Some(id)),
         Err(fault) => Err(fault),
     }
@@ -71,17 +77,20 @@ fn offer_at<P: Pages>(
     id: u32,
     child: u32,
     best: &mut Best,
+    kept: &mut Kept,
     line: &mut [u8],
     buf: &mut [u8],
 ) -> Result<(), AskFault>
     requires room_for_line { 65535 ≤ length line.old }
     requires room { 65535 ≤ length buf.old }
     ensures keep { best.new.keep ≡ best.old.keep }
-    ensures more { OnOk result (OverStore (P.view store.old.pages) store.old.root (λ gaz. SeesMore gaz id best.old.keep (λ row. child == id_of row) best.old.pairs best.new.pairs)) }
+    ensures more { OnOk result (OverStore (P.view store.old.pages) store.old.root (λ gaz. IsKept (lists_of gaz) kept.old → SeesMore gaz id best.old.keep (λ row. child == id_of row) best.old.pairs best.new.pairs)) }
+    ensures kept { OnOk result (OverStore (P.view store.old.pages) store.old.root (λ gaz. IsKept (lists_of gaz) kept.old → IsKept (lists_of gaz) kept.new)) }
     ensures damaged { IfErr result (λ fault. OverStore (P.view store.old.pages) store.old.root (λ gaz. IsSound fault)) }
     ensures line_size { length line.new ≡ length line.old }
     ensures size { length buf.new ≡ length buf.old }
     ensures asked { HasOnlyAsked (P.view store.old.pages) (P.view store.new.pages) result }
+    ensures few { OverStore (P.view store.old.pages) store.old.root (λ gaz. (P.view store.new.pages).reads ≤ (P.view store.old.pages).reads + (35 * most_sought gaz + 153)) }
     ensures root { store.new.root ≡ store.old.root }
     ensures keeps { P.keeps store.old.pages store.new.pages }
 {
@@ -92,7 +101,7 @@ fn offer_at<P: Pages>(
         Err(fault) => return Err(fault),
     };
     let row = Row::of(&line[..size]);
-    match is_child(store, id, &row, buf) {
+    match is_child(store, id, &row, kept, buf) {
         Ok(true) => {
             best.offer(row.population(), row.id());
             Ok(())
@@ -128,12 +137,15 @@ fn offer_all<P: Pages>(
     ensures line_size { length line.new ≡ length line.old }
     ensures size { length buf.new ≡ length buf.old }
     ensures asked { HasOnlyAsked (P.view store.old.pages) (P.view store.new.pages) result }
+    ensures few { OverFew candidates.most (P.view store.old.pages) store.old.root candidates.scan
+        (λ gaz left. (P.view store.new.pages).reads ≤ (P.view store.old.pages).reads + ((2 * (tree_of candidates.scan).height + (35 * most_sought gaz + 153)) * length left + 2 * (tree_of candidates.scan).height)) }
     ensures root { store.new.root ≡ store.old.root }
     ensures keeps { P.keeps store.old.pages store.new.pages }
 {
+    let mut kept = Kept::none();
     for _turn in 0..turns_for(candidates.most) {
         match next_id(store, &mut candidates.scan, candidates.part) {
-            Ok(Some(child)) => match offer_at(store, id, child, best, line, buf) {
+            Ok(Some(child)) => match offer_at(store, id, child, best, &mut kept, line, buf) {
                 Ok(()) => {}
                 Err(fault) => return Err(fault),
             },
@@ -160,6 +172,7 @@ fn offer_linked<P: Pages>(
     ensures line_size { length line.new ≡ length line.old }
     ensures size { length buf.new ≡ length buf.old }
     ensures asked { HasOnlyAsked (P.view store.old.pages) (P.view store.new.pages) result }
+    ensures few { OverStore (P.view store.old.pages) store.old.root (λ gaz. (P.view store.new.pages).reads ≤ (P.view store.old.pages).reads + (most_for_rows gaz (links_down gaz id) + 12)) }
     ensures root { store.new.root ≡ store.old.root }
     ensures keeps { P.keeps store.old.pages store.new.pages }
 {
@@ -190,7 +203,7 @@ fn beginning_of(row: &Row<'_>) -> Option<Beginning>
         return None;
     };
     let mut bytes = [0; 27];
-    let len = put_path(&mut bytes, level, row);
+    let len = put_path(&mut bytes, level, row, 0);
     Some(Beginning { bytes, len })
 }
 
@@ -232,6 +245,7 @@ fn offer_beginning<P: Pages>(
     ensures line_size { length line.new ≡ length line.old }
     ensures size { length buf.new ≡ length buf.old }
     ensures asked { HasOnlyAsked (P.view store.old.pages) (P.view store.new.pages) result }
+    ensures few { OverStore (P.view store.old.pages) store.old.root (λ gaz. (text : List ℕ) → IsFront 27 text first.now len → (P.view store.new.pages).reads ≤ (P.view store.old.pages).reads + (most_for_rows gaz (rows_alike gaz text) + 12)) }
     ensures root { store.new.root ≡ store.old.root }
     ensures keeps { P.keeps store.old.pages store.new.pages }
 {
@@ -287,6 +301,7 @@ fn look_named<P: Pages>(
     ensures tree { tree_of scan.new ≡ tree_of scan.old }
     ensures size { length buf.new ≡ length buf.old }
     ensures asked { HasOnlyAsked (P.view store.old.pages) (P.view store.new.pages) result }
+    ensures few { (P.view store.new.pages).reads ≤ (P.view store.old.pages).reads + (2 * (tree_of scan.old).height + 17) }
     ensures root { store.new.root ≡ store.old.root }
     ensures keeps { P.keeps store.old.pages store.new.pages }
 {
@@ -322,6 +337,9 @@ fn offer_country<P: Pages>(
     ensures line_size { length line.new ≡ length line.old }
     ensures size { length buf.new ≡ length buf.old }
     ensures asked { HasOnlyAsked (P.view store.old.pages) (P.view store.new.pages) result }
+    ensures tree { tree_of scan.new ≡ tree_of scan.old }
+    ensures few { OverCountries (P.view store.old.pages) store.old.root scan.old
+        (λ gaz left. (P.view store.new.pages).reads ≤ (P.view store.old.pages).reads + (most_for_rows gaz (rows_of_first gaz id left) + (2 * (tree_of scan.old).height + 29))) }
     ensures root { store.new.root ≡ store.old.root }
     ensures keeps { P.keeps store.old.pages store.new.pages }
 {
@@ -355,6 +373,8 @@ fn offer_countries<P: Pages>(
     ensures line_size { length line.new ≡ length line.old }
     ensures size { length buf.new ≡ length buf.old }
     ensures asked { HasOnlyAsked (P.view store.old.pages) (P.view store.new.pages) result }
+    ensures few { OverCountries (P.view store.old.pages) store.old.root scan.old
+        (λ gaz left. (P.view store.new.pages).reads ≤ (P.view store.old.pages).reads + (most_for_rows gaz (rows_of_pairs gaz id left) + (2 * (tree_of scan.old).height + 29) * (store.old.root.counts.countries + 1))) }
     ensures root { store.new.root ≡ store.old.root }
     ensures keeps { P.keeps store.old.pages store.new.pages }
 {
@@ -384,6 +404,7 @@ fn offer_named<P: Pages>(
     ensures line_size { length line.new ≡ length line.old }
     ensures size { length buf.new ≡ length buf.old }
     ensures asked { HasOnlyAsked (P.view store.old.pages) (P.view store.new.pages) result }
+    ensures few { OverStore (P.view store.old.pages) store.old.root (λ gaz. (P.view store.new.pages).reads ≤ (P.view store.old.pages).reads + (most_for_rows gaz (rows_named gaz id) + 41 * (length gaz.countries + 1))) }
     ensures root { store.new.root ≡ store.old.root }
     ensures keeps { P.keeps store.old.pages store.new.pages }
 {
@@ -408,6 +429,7 @@ fn offer_within<P: Pages>(
     ensures line_size { length line.new ≡ length line.old }
     ensures size { length buf.new ≡ length buf.old }
     ensures asked { HasOnlyAsked (P.view store.old.pages) (P.view store.new.pages) result }
+    ensures few { OverStore (P.view store.old.pages) store.old.root (λ gaz. (place : List ℕ) → IsBeginningOf place beginning → (P.view store.new.pages).reads ≤ (P.view store.old.pages).reads + (most_for_rows gaz (rows_within gaz place) + 12)) }
     ensures root { store.new.root ≡ store.old.root }
     ensures keeps { P.keeps store.old.pages store.new.pages }
 {
@@ -436,6 +458,7 @@ fn offer_children<P: Pages>(
     ensures size { length buf.new ≡ length buf.old }
     ensures line_size { length line.new ≡ length line.old }
     ensures asked { HasOnlyAsked (P.view store.old.pages) (P.view store.new.pages) result }
+    ensures few { OverStore (P.view store.old.pages) store.old.root (λ gaz. (P.view store.new.pages).reads ≤ (P.view store.old.pages).reads + most_for_children gaz id) }
     ensures root { store.new.root ≡ store.old.root }
     ensures keeps { P.keeps store.old.pages store.new.pages }
 {
@@ -471,6 +494,7 @@ pub fn children<P: Pages>(
     ensures damaged { IfErr result (NotOver (P.view store.old.pages) store.old.root) }
     ensures size { length buf.new ≡ length buf.old }
     ensures asked { HasOnlyAsked (P.view store.old.pages) (P.view store.new.pages) (as_asked result) }
+    ensures reads { OverStore (P.view store.old.pages) store.old.root (λ gaz. (P.view store.new.pages).reads ≤ (P.view store.old.pages).reads + most_for_children gaz id) }
     ensures root { store.new.root ≡ store.old.root }
     ensures keeps { P.keeps store.old.pages store.new.pages }
 {

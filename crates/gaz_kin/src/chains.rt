@@ -1,5 +1,5 @@
 //! The chain of a place, upwards.
-ghost use Rattle.std.specs.Prelude.{◌≡◌, ◌≤◌, ◌∷◌, [], length, take, None, IfOk, IfErr};
+ghost use Rattle.std.specs.Prelude.{◌≡◌, ◌≤◌, ◌+◌, ◌*◌, ◌∷◌, [], length, take, None, IfOk, IfErr};
 ghost use Rattle.gaz_num.specs.declared.words.Table.TheVariants.{Rows};
 ghost use Rattle.gaz_parent.specs.Chain.{parent_at, upwards};
 ghost use Rattle.gaz_plain.specs.Gazetteer.{line_with};
@@ -7,8 +7,10 @@ ghost use Rattle.gaz_plain.specs.Kin.{lists_of, chain_of};
 ghost use Rattle.gaz_rows.specs.Store.{IsSound};
 ghost use Rattle.gaz_kin.specs.Faults.{as_asked, NotOver};
 ghost use Rattle.gaz_kin.specs.Over.{OverStore, HasOnlyAsked};
+ghost use Rattle.gaz_kin.specs.Reads.{most_sought, most_for_chain};
 
 use crate::fault::{KinFault, kin_fault};
+use crate::kept::Kept;
 use crate::kin::parent_of;
 use crate::rows::{find_row, if_live};
 use gaz_page::Pages;
@@ -32,11 +34,15 @@ fn parent_at<P: Pages>(
     ensures line_size { length line.new ≡ length line.old }
     ensures size { length buf.new ≡ length buf.old }
     ensures asked { HasOnlyAsked (P.view store.old.pages) (P.view store.new.pages) result }
+    ensures few { OverStore (P.view store.old.pages) store.old.root (λ gaz. (P.view store.new.pages).reads ≤ (P.view store.old.pages).reads + 64 * (most_sought gaz + 4)) }
     ensures root { store.new.root ≡ store.old.root }
     ensures keeps { P.keeps store.old.pages store.new.pages }
 {
     match find_row(store, id, line) {
-        Ok(Some(size)) => parent_of(store, &Row::of(&line[..size]), buf),
+        Ok(Some(size)) => {
+            let mut kept = Kept::none();
+            parent_of(store, &Row::of(&line[..size]), &mut kept, buf)
+        }
         Ok(None) => Ok(None),
         Err(fault) => Err(fault),
     }
@@ -58,6 +64,7 @@ fn climb<P: Pages>(
     ensures line_size { length line.new ≡ length line.old }
     ensures size { length buf.new ≡ length buf.old }
     ensures asked { HasOnlyAsked (P.view store.old.pages) (P.view store.new.pages) result }
+    ensures few { OverStore (P.view store.old.pages) store.old.root (λ gaz. (P.view store.new.pages).reads ≤ (P.view store.old.pages).reads + 64 * (length (upwards 64 (lists_of gaz) [] first) * (most_sought gaz + 4))) }
     ensures root { store.new.root ≡ store.old.root }
     ensures keeps { P.keeps store.old.pages store.new.pages }
 {
@@ -97,6 +104,7 @@ fn chain_in<P: Pages>(
     ensures line_size { length line.new ≡ length line.old }
     ensures size { length buf.new ≡ length buf.old }
     ensures asked { HasOnlyAsked (P.view store.old.pages) (P.view store.new.pages) result }
+    ensures few { OverStore (P.view store.old.pages) store.old.root (λ gaz. (P.view store.new.pages).reads ≤ (P.view store.old.pages).reads + most_for_chain gaz id) }
     ensures root { store.new.root ≡ store.old.root }
     ensures keeps { P.keeps store.old.pages store.new.pages }
 {
@@ -121,6 +129,7 @@ pub fn chain<P: Pages>(
     ensures damaged { IfErr result (NotOver (P.view store.old.pages) store.old.root) }
     ensures size { length buf.new ≡ length buf.old }
     ensures asked { HasOnlyAsked (P.view store.old.pages) (P.view store.new.pages) (as_asked result) }
+    ensures reads { OverStore (P.view store.old.pages) store.old.root (λ gaz. (P.view store.new.pages).reads ≤ (P.view store.old.pages).reads + most_for_chain gaz id) }
     ensures root { store.new.root ≡ store.old.root }
     ensures keeps { P.keeps store.old.pages store.new.pages }
 {

@@ -2,7 +2,7 @@
 ghost use Rattle.std.specs.Prelude.{◌≡◌, ◌≤◌, ◌∷◌, [], ◌++◌, List, ℕ, length, replicate};
 ghost use Rattle.gaz_name.specs.Name.{first_bytes};
 ghost use Rattle.gaz_keys.specs.Front.{IsFront};
-ghost use Rattle.gaz_keys.specs.Lines.{path_to};
+ghost use Rattle.gaz_kin.specs.Kept.{path_with};
 
 use gaz_row::Row;
 
@@ -29,28 +29,28 @@ pub(crate) fn put_text(bytes: &mut [u8], text: &[u8]) -> usize
     put_behind(bytes, len, &[0])
 }
 
-/// Puts a code behind the first `len` bytes, and a zero behind it, as much of them as there is room for. How many bytes stand there now.
-fn put_code(bytes: &mut [u8], len: usize, code: &str) -> usize
+/// Puts a code behind the first `len` bytes, and a byte behind it, as much of them as there is room for. How many bytes stand there now.
+fn put_code(bytes: &mut [u8], len: usize, code: &str, byte: u8) -> usize
     requires { len ≤ length bytes.now }
-    ensures front { (text : List ℕ) → IsFront (length bytes.old) text bytes.old len → IsFront (length bytes.old) (text ++ (code.now ++ 0 ∷ [])) bytes.new result }
+    ensures front { (text : List ℕ) → IsFront (length bytes.old) text bytes.old len → IsFront (length bytes.old) (text ++ (code.now ++ byte ∷ [])) bytes.new result }
     ensures size { length bytes.new ≡ length bytes.old }
     ensures bound { result ≤ length bytes.old }
 {
     let len = put_behind(bytes, len, code.as_bytes());
-    put_behind(bytes, len, &[0])
+    put_behind(bytes, len, &[byte])
 }
 
-/// Writes the first bytes of the path to a level over zeros. How many bytes are those of the path.
-pub(crate) fn put_path(bytes: &mut [u8], level: u8, row: &Row<'_>) -> usize
+/// Writes the first bytes of the path to a level over zeros, with a byte behind each code. How many bytes are those of the path.
+pub(crate) fn put_path(bytes: &mut [u8], level: u8, row: &Row<'_>, byte: u8) -> usize
     requires zeros { bytes.old ≡ replicate (length bytes.old) 0 }
     requires level { level ≤ 4 }
-    ensures front { IsFront (length bytes.old) (path_to level row.now) bytes.new result }
+    ensures front { IsFront (length bytes.old) (path_with byte level row.now) bytes.new result }
     ensures size { length bytes.new ≡ length bytes.old }
     ensures bound { result ≤ length bytes.old }
 {
-    let mut len = put_code(bytes, 0, row.country());
+    let mut len = put_code(bytes, 0, row.country(), byte);
     for above in 0..level {
-        len = put_code(bytes, len, row.admin(above + 1));
+        len = put_code(bytes, len, row.admin(above + 1), byte);
     }
     len
 }

@@ -1,6 +1,6 @@
 //! Runs of a load and a day that are stopped, and what later runs find.
 use crate::runs::{
-    REPLIES, REQUESTS, STOPS, acknowledged, are_kept, changes_after, changes_found, serve_on,
+    CALLS, REPLIES, REQUESTS, STOPS, acknowledged, are_kept, changes_after, changes_found, serve_on,
 };
 use crate::worked::station_of;
 use gaz_outside::{Area, MemStation};
@@ -16,10 +16,8 @@ fn stopped_after(alloc: Global, calls: u64) -> Result<(MemStation, u8), AllocErr
     Ok((station, status))
 }
 
-/// An opening of empty areas makes 7 calls: it syncs five areas, reads the gate and asks for the length of Root. A store
-/// makes 11: two writes of the text and a sync, the log and its sync, the gate and its sync, the root and its sync, and
-/// the gate and its sync. Then the change is acknowledged. So the sixth call of the day, the write that opens the gate, is the
-/// 25th of the run.
+/// The opening makes 7 calls, the load and its acknowledgement 11. The day reads pages four times, writes the log and syncs it; so its
+/// seventh call, the write that opens the gate, is the 25th of the run.
 const GATE: u64 = 25;
 
 #[test]
@@ -72,32 +70,32 @@ fn calls_of_an_opening(
     Ok(None)
 }
 
-/// With a closed gate the opening makes ten calls: it syncs five areas, reads the gate, and asks for the length of Root and of
-/// the text's area and reads each.
+/// With a closed gate the opening makes eight calls: it syncs five areas, reads the gate, asks for the length of Root and reads its
+/// page. It reads nothing of the gazetteer.
 #[test]
 fn stops_in_the_opening_after_a_stop_change_nothing(rt: HostRuntime) -> Result<(), Fail> {
     let alloc = rt.alloc();
     let (station, _) = stopped_after(alloc, GATE)?;
-    assert_eq!(rt; calls_of_an_opening(&rt, alloc, &station, 0, 1)?, Some(10));
-    assert_eq!(rt;
-        calls_of_an_opening(&rt, alloc, &station, 255, 1)?,
-        Some(10)
-    );
+    assert_eq!(rt; calls_of_an_opening(&rt, alloc, &station, 0, 1)?, Some(8));
+    assert_eq!(rt; calls_of_an_opening(&rt, alloc, &station, 255, 1)?, Some(8));
     assert!(rt; calls_of_an_opening(&rt, alloc, &station, 1, 2)?.is_some());
     Ok(())
 }
 
-/// The run makes 35 calls: the opening 7, each change 11 and its acknowledgement 1, the get of a place 3, and the other get 1.
 #[test]
 fn stop_at_any_call_leaves_what_was_acknowledged_or_one_change_more(
     rt: HostRuntime,
 ) -> Result<(), Fail> {
     let alloc = rt.alloc();
-    for calls in 0..=35 {
+    for calls in 0..=CALLS {
         let (station, status) = stopped_after(alloc, calls)?;
-        assert_eq!(rt; status, if calls < 35 { 3 } else { 0 }, "{calls} calls");
+        assert_eq!(rt; status, if calls < CALLS { 3 } else { 0 }, "{calls} calls");
         assert!(rt; REPLIES.starts_with(station.printed()), "{calls} calls");
-        assert_eq!(rt; station.printed() == REPLIES, calls == 35, "{calls} calls");
+        assert_eq!(rt;
+            station.printed() == REPLIES,
+            calls == CALLS,
+            "{calls} calls"
+        );
         let told = acknowledged(station.printed());
         for (keep, fill) in STOPS {
             assert!(rt;
@@ -113,7 +111,7 @@ fn stop_at_any_call_leaves_what_was_acknowledged_or_one_change_more(
 #[test]
 fn changes_can_be_made_again_after_a_stop(rt: HostRuntime) -> Result<(), Fail> {
     let alloc = rt.alloc();
-    for calls in 0..=35 {
+    for calls in 0..=CALLS {
         let (station, _) = stopped_after(alloc, calls)?;
         for (keep, fill) in STOPS {
             let mut after = station.after_stop(keep, fill)?;

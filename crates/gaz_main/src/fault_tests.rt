@@ -1,7 +1,7 @@
 //! Runs of a load, a day and two gets in which one call fails, and what the next run finds.
 use crate::runs::{
-    FILES, REPLIES, REQUESTS, acknowledged, are_kept, changes_after, changes_found, is_synced,
-    replies_within, serve_on,
+    CALLS, FILES, REPLIES, REQUESTS, acknowledged, are_kept, changes_after, changes_found,
+    is_synced, replies_within, serve_on,
 };
 use crate::worked::{
     ADMIN1, ADMIN2, ALT_DELETES, ALT_MODIFICATIONS, ALTERNATES, B2, C3, COUNTRIES, DELETES, DUMP,
@@ -13,17 +13,15 @@ use std::alloc::{AllocError, Global};
 use std::process::Abort;
 use std::test::Fail;
 
-/// The opening makes 7 calls of the station, each change 11 and its acknowledgement 1, the get of a place 3, and the other
-/// get 1: 35.
 #[test]
 fn each_call_of_the_station_that_fails_ends_the_run_with_3(rt: HostRuntime) -> Result<(), Fail> {
     let alloc = rt.alloc();
-    for call in 1..=36 {
+    for call in 1..=CALLS + 1 {
         let mut station = station_of(alloc, &[call])?;
         let status = serve_on(alloc, &mut station, REQUESTS)?;
-        assert_eq!(rt; status, if call <= 35 { 3 } else { 0 }, "call {call}");
+        assert_eq!(rt; status, if call <= CALLS { 3 } else { 0 }, "call {call}");
         assert!(rt; REPLIES.starts_with(station.printed()), "call {call}");
-        assert_eq!(rt; station.printed() == REPLIES, call > 35, "call {call}");
+        assert_eq!(rt; station.printed() == REPLIES, call > CALLS, "call {call}");
         let found = changes_after(alloc, &station, 0, 255)?;
         assert!(rt;
             are_kept(found, acknowledged(station.printed())),
@@ -71,7 +69,7 @@ fn told_without(alloc: Global, file: &str, changes: u64) -> Result<Vec<u8>, Allo
 }
 
 /// The calls of the shelf: a load and a day open their files, and then read each twice, up to its end.
-const CALLS: [(u64, &str, u64); 30] = [
+const SHELF_CALLS: [(u64, &str, u64); 30] = [
     (1, DUMP, 0),
     (2, ALTERNATES, 0),
     (3, LINKS, 0),
@@ -129,7 +127,7 @@ fn each_call_of_the_shelf_that_fails_refuses_its_request_alone(
     rt: HostRuntime,
 ) -> Result<(), Fail> {
     let alloc = rt.alloc();
-    for (call, file, changes) in CALLS {
+    for (call, file, changes) in SHELF_CALLS {
         let text = told_without(alloc, file, changes)?;
         expect_told(&rt, alloc, call, &text, changes)?;
     }

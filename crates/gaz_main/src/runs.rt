@@ -32,6 +32,12 @@ pub(crate) const REQUESTS: &[u8] = b"load 2024-03-01\nday 2024-03-02\nget 2\nget
 pub(crate) const REPLIES: &[u8] =
     b"ok load 2024-03-01\nok day 2024-03-02\n2\tX\t\t\t0\t0\tP\tPPL\tAA\t\t\t\t\t\t9\t\t\t\t2024-02-01\nok 1\nok 0\n";
 
+/// The calls of the station that the run makes. The opening of empty areas makes 7: it syncs five areas, reads the gate and asks for
+/// the length of Root. The load makes 10: its two pages in one write, their sync, and the commit of the root page, which writes
+/// and syncs the log, the gate, the root and the gate. The day makes 14: it reads the leaf and the page of records twice each,
+/// and its commit writes and syncs the two pages also. Each acknowledgement is 1, the get of a place 5, that of none 2.
+pub(crate) const CALLS: u64 = 40;
+
 /// Where each request ends, and its reply.
 const ENDS: [(usize, usize); 4] = [(16, 19), (31, 37), (37, 82), (43, 87)];
 

@@ -1,5 +1,1 @@
-pub mod Content
-pub mod Holds
-pub mod Fits
 pub mod Opens
-pub mod Tables

@@ -1,22 +1,21 @@
 -- What an opening finds, and what it leaves.
-use Rattle.std.specs.Prelude.{◌≡◌, ◌⊎◌, ◌<◌, ◌≤◌, ◌+◌, ℕ, true, false, IsTrue, List, length, Option, Some, None, Result, Err}
+use Rattle.std.specs.Prelude.{⊤, ◌≡◌, ◌⊎◌, ◌<◌, ◌≤◌, ◌+◌, ℕ, true, false, IsTrue, List, length, Option, Some, None, Result, Err}
 use Rattle.gaz_outside.specs.declared.station.Area.{Area}
 use Rattle.gaz_outside.specs.declared.station.Area.TheVariants as area
 use Rattle.gaz_outside.specs.Outside.{RisesOnce}
-use Rattle.gaz_outside.specs.Station.{StationView, Confined, LeavesOnly, pieces}
-use Rattle.gaz_redo.specs.Content.{Contents, content, is_log, is_open}
+use Rattle.gaz_outside.specs.Station.{StationView, Confined, LeavesOnly}
+use Rattle.gaz_redo.specs.Content.{content, is_log, is_open}
 use Rattle.gaz_redo.specs.Form.{IsInForm}
 use Rattle.gaz_redo.specs.Slots.{SameBytes}
 use Rattle.gaz_redo.specs.Recovered.{AllStable, OnlyRise, SlotsToRedo}
 use Rattle.gaz_plain.specs.Gazetteer.{Gazetteer}
-use Rattle.gaz_page.specs.declared.page.Side.{Side}
-use Rattle.gaz_page.specs.declared.root.PlainRoot.{PlainRoot}
-use Rattle.gaz_page.specs.Root.{root_in}
+use Rattle.gaz_page.specs.declared.tree_root.Root.{Root as PageRoot}
+use Rattle.gaz_page.specs.TreeRoot.{FitsRoot, tree_root_at}
+use Rattle.gaz_pages.specs.Fits.{Fits}
+use Rattle.gaz_rows.specs.Content.{Mirrors}
+use Rattle.gaz_rows.specs.Holds.{AllHold, HasNone, IsFound}
 use Rattle.gaz_open.specs.declared.find.Found.{Found}
 use Rattle.gaz_open.specs.declared.find.Found.TheVariants.{Empty, Named, NotARoot}
-use Rattle.gaz_open.specs.Content.{Mirrors}
-use Rattle.gaz_open.specs.Holds.{AllHold, HasNone, IsFound}
-use Rattle.gaz_open.specs.Fits.{Fits}
 use Rattle.gaz_open.specs.declared.fault.Place.{Place}
 use Rattle.gaz_open.specs.declared.fault.Place.TheVariants.{Log, Root}
 use Rattle.gaz_open.specs.declared.fault.OpenFault.{OpenFault}
@@ -40,21 +39,17 @@ pub record IsSettled (old new : StationView) : Type 0 where
 abbrev pub NothingToRedo : (Area → List ℕ) → Type 0
 NothingToRedo areas = (is_open (areas area.Mark) ≡ false) ⊎ (is_log areas ≡ false)
 
--- how many pieces of 4,096 bytes the text has that a root page names
-abbrev pub text_pieces : Option PlainRoot → ℕ
-text_pieces None = 0
-text_pieces (Some root) = pieces root.length
-
--- how many pieces the text of a content has: none where Root is no root page
-abbrev pub content_pieces : Option Contents → ℕ
-content_pieces None = 0
-content_pieces (Some c) = text_pieces (root_in c.root)
-
 -- what Root says
 abbrev pub Finds : Found → List ℕ → Type 0
 Finds Empty bytes = length bytes < 4096
-Finds (Named root) bytes = (4096 ≤ length bytes) × (root_in bytes ≡ Some root)
-Finds NotARoot bytes = (4096 ≤ length bytes) × (root_in bytes ≡ None)
+Finds (Named root) bytes = (4096 ≤ length bytes) × (tree_root_at bytes ≡ Some root)
+Finds NotARoot bytes = (4096 ≤ length bytes) × (tree_root_at bytes ≡ None)
+
+-- The fields of a root that was found fit into their places.
+abbrev pub FitsFound : Found → Type 0
+FitsFound Empty = ⊤
+FitsFound (Named root) = FitsRoot root
+FitsFound NotARoot = ⊤
 
 -- The count of faults rises by one where the station failed, and else stands.
 abbrev pub FailsOnce : {A : Type 0} → ℕ → ℕ → Result A OpenFault → Type 0
@@ -71,12 +66,11 @@ pub record IsOpening (old new : StationView) : Type 0 where
   pub untouched : IsTrue old.is_told → NothingToRedo old.bytes → Confined SameBytes old new
   pub unwritten : IsTrue old.is_told → NothingToRedo old.bytes → new.writes ≡ old.writes
 
--- What opened is the gazetteer that the areas mirror. The gate is closed then, nothing is pending, and Root says where the text is.
-pub record HasOpened (gaz : Gazetteer) (side : Option Side) (old new : StationView) : Type 0 where
-  pub mirrors : Mirrors old.bytes gaz
-  pub fits : Fits side new
+-- A mirror with this root opened: it fits the device, of which nothing is pending, and all outcomes have what the areas mirrored.
+pub record HasOpened (root : Option PageRoot) (old new : StationView) : Type 0 where
+  pub fits : Fits root new
   pub stable : AllStable new
-  pub now : AllHold new gaz
+  pub holds : (gaz : Gazetteer) → Mirrors old.bytes gaz → AllHold new gaz
 
 -- The log is to blame where the gate is open over a log that isn't in form, and Root only where it isn't so.
 abbrev pub IsToBlame : Place → (Area → List ℕ) → Type 0

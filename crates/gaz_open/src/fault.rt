@@ -5,7 +5,7 @@
 pub enum Place {
     /// The gate is open, and the log isn't in form.
     Log,
-    /// Root is no root page, or what it names is no text of a gazetteer.
+    /// Root has a page, and it is no root page.
     Root,
 }
 

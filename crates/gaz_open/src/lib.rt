@@ -1,22 +1,17 @@
-//! The mirror on the device while the gazetteer is one text: what five areas stand for, and the opening.
-//! The text stands in Left or Right from byte 4,096 on, and the root page names it; areas without a root are the empty gazetteer.
-//! `open_plain` syncs, recovers from a stop and reads: it answers the gazetteer that the areas mirror, or says that they mirror none.
-//! At every moment of it the areas stand for the gazetteer that they stood for, and it prints nothing.
-//! The laws of the mirror: areas mirror one gazetteer, and what is written and named is read.
+//! The opening of a mirror on the device.
+//! `open` syncs the areas, recovers from a stop and reads the root page: it answers the mirror with that root, or says that the areas are
+//! no mirror. Of the gazetteer it reads nothing, so a page that is damaged shows when a question or a day meets it.
+//! At every moment of it the areas mirror what they mirrored, and it prints nothing; after it nothing is pending.
+//! `areas_mirror` says what areas mirror: one gazetteer, and at first the empty one.
 #![tactic(auto)]
 
 mod fault;
 mod find;
 mod law;
-mod open;
-mod parse;
+mod opening;
 mod settle;
-mod side;
-mod text;
 
 pub use fault::{OpenFault, Place};
 pub use find::Found;
-pub use law::{areas_mirror, written_is_read};
-pub use open::{PlainMirror, open_plain};
-pub use parse::tables_in_text;
-pub use side::{area_of, idle_side};
+pub use law::areas_mirror;
+pub use opening::open;

@@ -9,7 +9,7 @@ ghost use Rattle.gaz_open.specs.Opens.{HasLog, HasNoLog, IsOpening, IsSettled};
 use gaz_outside::{Area, Failed, Station};
 use gaz_redo::{Recovered, RedoFault, recover};
 
-/// Syncs the areas in their order.
+/// Syncs each area.
 fn sync_all<T: Station>(station: &mut T) -> Result<(), Failed>
     ensures stable { OnOk result (IsTrue (T.view station.old).is_told → AllStable (T.view station.new)) }
     ensures stays { IsTrue (T.view station.old).is_told → Confined SameBytes (T.view station.old) (T.view station.new) }

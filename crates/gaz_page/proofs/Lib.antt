@@ -1,4 +1,4 @@
-pub mod Written
+pub mod Sides
 pub mod Read
 pub mod TreeRoot
 pub mod Area
@@ -8,4 +8,3 @@ pub mod FreeChains
 pub mod TakeDamages
 pub mod Takes
 mod Examples
-mod TreeExamples

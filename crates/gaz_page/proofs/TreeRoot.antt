@@ -1,4 +1,4 @@
--- Root pages of version 1 are read as they were written, and written as they are read.
+-- Root pages are read as they were written, and written as they are read.
 use Rattle.std.proofs.Common.{◌≡◌, ◌≤◌, ℕ, true, List, [], ◌∷◌, ◌++◌, length, take, drop, replicate, refl, sym, ◌∙◌, ap, arith, Some, subst}
 use Rattle.std.specs.Prelude.{nat_le, ◌==◌, ◌&&◌, ◌||◌, slice_index}
 use Rattle.std.specs.Int.{w32, to_be_bytes}
@@ -14,8 +14,8 @@ use Rattle.gaz_page.specs.declared.tree_root.Root.{Root}
 use Rattle.gaz_page.specs.Root.{side_of, side_code, number_at, has_zeros}
 use Rattle.gaz_page.specs.Laws.{IsBytes}
 use Rattle.gaz_page.specs.TreeRoot.{FitsRoot, tree_head, tree_root_bytes, tree_root_in, tree_root_at, tree_fields, is_tree_root, has_tree_marks, has_tree_gaps}
-use Rattle.gaz_page.proofs.Written.{side_back, has_side}
-use Rattle.gaz_page.proofs.Read.{side_there, zeros_there, number_there, number_fits, byte_there, joined}
+use Rattle.gaz_page.proofs.Sides.{side_back, has_side, side_there}
+use Rattle.gaz_page.proofs.Read.{zeros_there, number_there, number_fits, byte_there, joined}
 
 fields_back : (root : Root) → FitsRoot root → tree_fields (tree_root_bytes root) ≡ root
 fields_back root fits =

@@ -1,4 +1,4 @@
--- The root page of version 1, which names a tree and pages: its bytes, and what they say.
+-- The root page, of version 1, which names a tree and pages: its bytes, and what they say. One of another version is none.
 use Rattle.std.specs.Prelude.{ℕ, ◌<◌, ◌≤◌, ◌^◌, nat_le, Bool, ◌==◌, ◌&&◌, ◌||◌, List, ◌∷◌, ◌++◌, length, take, replicate, slice_index, Option}
 use Rattle.std.specs.Int.{w32, to_be_bytes}
 use Rattle.gaz_num.specs.Numbers.{some_if}

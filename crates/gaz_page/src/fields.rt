@@ -1,6 +1,6 @@
 //! Numbers in the bytes of a page, the highest byte first.
 ghost use Rattle.std.specs.Prelude.{◌≡◌, ◌≤◌, ◌+◌, length};
-ghost use Rattle.gaz_page.specs.Root.{number_at as number_in, long_at as long_in};
+ghost use Rattle.gaz_page.specs.Root.{number_at as number_in};
 ghost use Rattle.gaz_page.specs.Free.{short_at as short_in};
 
 /// A number of two bytes.
@@ -18,21 +18,4 @@ pub fn number_at(page: &[u8], at: usize) -> u32
     ensures { result ≡ number_in at page.now }
 {
     u32::from_be_bytes([page[at], page[at + 1], page[at + 2], page[at + 3]])
-}
-
-/// A number of eight bytes.
-pub fn long_at(page: &[u8], at: usize) -> u64
-    requires { at + 8 ≤ length page.now }
-    ensures { result ≡ long_in at page.now }
-{
-    u64::from_be_bytes([
-        page[at],
-        page[at + 1],
-        page[at + 2],
-        page[at + 3],
-        page[at + 4],
-        page[at + 5],
-        page[at + 6],
-        page[at + 7],
-    ])
 }

@@ -1,6 +1,6 @@
 -- What stands at a key among entries, and what an edit at one leaves.
 use Rattle.std.proofs.Common.{◌≡◌, ℕ, zero, suc, ◌+◌, Bool, true, false, List, [], ◌∷◌, ◌++◌, length, map, filter, Some, None, refl, sym, ap, ◌∙◌, arith}
-use Rattle.std.specs.Prelude.{is_some, ◌↔◌, All, option_map, if◌then◌else◌}
+use Rattle.std.specs.Prelude.{is_some, All, option_map, if◌then◌else◌}
 use Rattle.std.specs.BTreeMap.{insert_entry, is_at}
 use Rattle.std.specs.List.{AllByRecursion}
 use Rattle.std.specs.List.Sorted.{IsStrictlySortedBy}
@@ -211,10 +211,6 @@ module _ {K X : Type 0} (items : X → List ℕ) (table : Table) (cmp : K → K 
         by more Less is = more (rw is at found)
         by more Equal is = same_below last e.0 is ∙ sym (line_compares e k keyed.0) ∙ ends 0 (items e.1) (omega arith)
         by more Greater is = more (rw is at found)
-
-    -- the last key tells
-    pub last_tells : (last : K) (v : X) (es : List (K × X)) → AreKeyed es → lookup (is_at (cmp last)) es ≡ Some v → All (λ key. is_lt (cmp last key) ≡ false) (keys_of es) → (cmp last k ≡ Less) ↔ EndsBefore table (numbers k) (lines es)
-    last_tells last v es keyed found up_to = (λ less. ends_before es keyed (below_all last less es up_to), λ ends. ends_with last v es keyed ends found)
 
   -- what a look-up by the numbers of a key finds
   pub found_line : (asked : List ℕ) (compare : K → Ordering) → ((key : K) → compare key ≡ key_cmp asked (numbers key)) → (es : List (K × X)) → AreKeyed es → option_map items (lookup (is_at compare) es) ≡ line_at table asked (lines es)

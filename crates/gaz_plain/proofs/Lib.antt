@@ -7,8 +7,6 @@ pub mod Folds
 pub mod Kept
 pub mod Steps
 pub mod Taken
-pub mod TextTests
-pub mod Grown
 pub mod Absent
 pub mod EntryLemmas
 pub mod ListLemmas

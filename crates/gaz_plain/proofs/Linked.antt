@@ -1,16 +1,14 @@
 -- Links and their pairs, after each edit.
-use Rattle.std.proofs.Common.{◌≡◌, ◌≢◌, ℕ, Bool, true, false, true≢false, List, [], ◌∷◌, ◌++◌, refl, sym, ap, subst, ◌∙◌}
-use Rattle.std.specs.Prelude.{Result, Ok, Err, IfOk, OnErr, OnOk, unwrap_or, slice_get}
-use Rattle.std.specs.Bool.{Decides}
+use Rattle.std.proofs.Common.{◌≡◌, ◌≢◌, ℕ, true, false, true≢false, List, [], ◌∷◌, sym, ap, subst, ◌∙◌}
+use Rattle.std.specs.Prelude.{Result, Ok, Err, OnErr, OnOk, unwrap_or, slice_get}
 use Rattle.std.specs.Str.{bytes_eq}
 use Rattle.std.proofs.lemmas.Slice.Eq.{bytes_eq-Decides}
 use Rattle.gaz_num.specs.declared.words.Table.TheVariants.{Links}
 use Rattle.gaz_tables.specs.declared.link.LinkKey.{LinkKey}
 use Rattle.gaz_tables.specs.Keys.{class_number, key_numbers}
 use Rattle.gaz_pick.proofs.OrderLemmas.{by_test}
-use Rattle.gaz_plain.specs.Places.{IsKeyOf, TakesBehind, with_line}
+use Rattle.gaz_plain.specs.Places.{IsKeyOf, with_line}
 use Rattle.gaz_plain.specs.Ordered.{Keeps, HasLink, AreLinked, up_number, down_number}
-use Rattle.gaz_plain.proofs.Grown.{put_behind}
 use Rattle.gaz_plain.proofs.OrderedLemmas.{found_other}
 
 module _ (links : List (List ℕ)) (old : List (ℕ × ℕ)) (are : AreLinked links old) where
@@ -38,9 +36,3 @@ module _ (links : List (List ℕ)) (old : List (ℕ × ℕ)) (are : AreLinked li
     pub stepped_linked : {T E : Type 0} (lines : List (List ℕ)) (result : Result T E) → OnOk result (lines ≡ with_line Links (key_numbers key) line links) → OnErr result (lines ≡ links) → AreLinked lines new
     stepped_linked lines (Ok done) ok err = subst (λ ls. AreLinked ls new) (sym ok) put_linked
     stepped_linked lines (Err error) ok err = subst (λ ls. AreLinked ls new) (sym err) (still_linked new keeps)
-
-    pub append_linked : {E : Type 0} (lines : List (List ℕ)) (result : Result Bool E)
-        → IfOk result (λ fits. Decides fits (TakesBehind Links (key_numbers key) links)) → IfOk result (λ fits. fits ≡ true → lines ≡ links ++ line ∷ []) → IfOk result (λ fits. fits ≡ false → lines ≡ links) → OnErr result (lines ≡ links) → AreLinked lines new
-    append_linked lines (Ok true) fits put left err = subst (λ ls. AreLinked ls new) (put_behind Links (key_numbers key) line links (fits.0 refl).1 ∙ sym (put refl)) put_linked
-    append_linked lines (Ok false) fits put left err = subst (λ ls. AreLinked ls new) (sym (left refl)) (still_linked new keeps)
-    append_linked lines (Err error) fits put left err = subst (λ ls. AreLinked ls new) (sym err) (still_linked new keeps)

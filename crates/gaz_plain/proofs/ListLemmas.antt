@@ -1,22 +1,18 @@
 -- A list of lines by its entries.
-use Rattle.std.proofs.Common.{◌≡◌, ℕ, ◌+◌, ◌<◌, ◌≤◌, Bool, true, false, List, [], ◌∷◌, ◌++◌, length, map, filter, Some, refl, ap, ◌∙◌, arith}
-use Rattle.std.specs.Prelude.{Vec, vec_items, is_some, option_map, if◌then◌else◌, ◌↔◌, ◌==◌, All}
+use Rattle.std.proofs.Common.{◌≡◌, ℕ, ◌+◌, ◌<◌, ◌≤◌, Bool, true, false, List, [], ◌∷◌, ◌++◌, length, map, filter, refl, ap, ◌∙◌, arith}
+use Rattle.std.specs.Prelude.{Vec, vec_items, is_some, option_map, if◌then◌else◌}
 use Rattle.std.specs.BTreeMap.{insert_entry, is_at}
-use Rattle.std.specs.List.{AllByRecursion, AllZip}
 use Rattle.std.specs.List.Sorted.{IsStrictlySortedBy}
 use Rattle.std.specs.Map.{keys_of, values_of, lookup, remove_entry}
-use Rattle.std.specs.Ordering.{is_lt, is_gt, ordering_index}
+use Rattle.std.specs.Ordering.{is_lt, is_gt}
 use Rattle.std.proofs.lemmas.Bool.Decides.{nat_tests}
 use Rattle.std.specs.declared.cmp.Ordering.{Ordering}
-use Rattle.std.specs.declared.cmp.Ordering.TheVariants.{Less, Equal, Greater}
 use Rattle.std.proofs.lemmas.List.{length-map, length-append}
-use Rattle.std.proofs.lemmas.Map.Entries.{length-keys_of}
 use Rattle.gaz_num.specs.declared.words.Table.{Table}
 use Rattle.gaz_plain.specs.Gazetteer.{key_of, key_cmp, limit_of, line_at}
-use Rattle.gaz_plain.specs.Places.{IsKeyOf, EndsBefore, TakesBehind, has_room, with_line, without_line}
+use Rattle.gaz_plain.specs.Places.{IsKeyOf, has_room, with_line, without_line}
 use Rattle.gaz_plain.specs.Entries.{lines_of, AreEntries}
-use Rattle.gaz_plain.proofs.EntryLemmas.{put_lines, put_keyed, put_length, taken_lines, taken_keyed, found_line, last_tells}
-use Rattle.gaz_plain.proofs.Grown.{put_behind}
+use Rattle.gaz_plain.proofs.EntryLemmas.{put_lines, put_keyed, put_length, taken_lines, taken_keyed, found_line}
 
 -- one line or another in its place
 pub one_length : (table : Table) (key a b : List ℕ) (lines : List (List ℕ)) → length (with_line table key a lines) ≡ length (with_line table key b lines)
@@ -36,16 +32,7 @@ pub values_seen : {K Z : Type 0} (es : List (K × Vec ℕ Z)) → map (λ line. 
 values_seen [] = refl
 values_seen (e ∷ es) = ap (λ ls. vec_items e.1 ∷ ls) (values_seen es)
 
--- what the test of a comparison tells
-pub less_told : (r : Ordering) (test : Bool) → test ≡ (ordering_index r == 0) → (test ≡ true) ↔ (r ≡ Less)
-less_told Less test is = (λ _. refl, λ _. is)
-less_told Equal test is = (λ e. cc, λ e. cc)
-less_told Greater test is = (λ e. cc, λ e. cc)
-
 module _ {K Z : Type 0} (table : Table) (cmp : K → K → Ordering) (numbers : K → List ℕ) (compares : (a b : K) → cmp a b ≡ key_cmp (numbers a) (numbers b)) (es : List (K × Vec ℕ Z)) (are : AreEntries table cmp numbers es) where
-  lines_length : length (lines_of es) ≡ length es
-  lines_length = length-map es (λ entry. vec_items entry.1)
-
   -- ---- look-ups
 
   pub found : (asked : List ℕ) (compare : K → Ordering) → ((key : K) → compare key ≡ key_cmp asked (numbers key)) → option_map vec_items (lookup (is_at compare) es) ≡ line_at table asked (lines_of es)
@@ -87,14 +74,6 @@ module _ {K Z : Type 0} (table : Table) (cmp : K → K → Ordering) (numbers : 
         within = omega (arith, within, ap length put_seen, length-map new (λ entry. vec_items entry.1));
       }
 
-      -- behind all others
-      pub put_behind_seen : EndsBefore table (numbers k) (lines_of es) → lines_of new ≡ lines_of es ++ line ∷ []
-      put_behind_seen ends = put_seen ∙ put_behind table (numbers k) line (lines_of es) ends
-
-      pub put_behind_are : IsKeyOf table (numbers k) line → TakesBehind table (numbers k) (lines_of es) → IsStrictlySortedBy cmp (keys_of new) → AreEntries table cmp numbers new
-      put_behind_are keyed takes rising =
-          put_are keyed (omega (arith, takes.0, ap length (put_behind table (numbers k) line (lines_of es) takes.1), length-append (lines_of es) (line ∷ []))) rising
-
   -- ---- whether there is room
 
   module _ (k : K) where
@@ -120,48 +99,3 @@ module _ {K Z : Type 0} (table : Table) (cmp : K → K → Ordering) (numbers : 
       rising = rising;
       within = omega (arith, are.within, fewer);
     }
-
-  -- ---- the last key
-
-  pub last_told : (k last : K) (v : Vec ℕ Z) (test : Bool) → length (lines_of es) < limit_of table → lookup (is_at (cmp last)) es ≡ Some v → All (λ key. is_lt (cmp last key) ≡ false) (keys_of es) → test ≡ (ordering_index (cmp last k) == 0)
-      → (test ≡ true → TakesBehind table (numbers k) (lines_of es)) × (TakesBehind table (numbers k) (lines_of es) → test ≡ true)
-  last_told k last v test room at up_to is =
-      let tells = last_tells vec_items table cmp numbers compares k last v es are.keyed at up_to in
-      let less = less_told (cmp last k) test is in
-      (λ e. (room, tells.0 (less.0 e)), λ takes. less.1 (tells.1 takes.1))
-
-  -- ---- a copy
-
-  module _ (C : K → K → Type 0) (D : Vec ℕ Z → Vec ℕ Z → Type 0) (same_keys : (a b : K) → C a b → b ≡ a) (same_items : (v w : Vec ℕ Z) → D v w → vec_items w ≡ vec_items v) where
-    abbrev AreCopies : List (K × Vec ℕ Z) → List (K × Vec ℕ Z) → Type 0
-    AreCopies xs ys = AllZip (λ p q. C p.0 q.0 × D p.1 q.1) xs ys
-
-    same_lines : (xs ys : List (K × Vec ℕ Z)) → AreCopies xs ys → lines_of ys ≡ lines_of xs
-    same_lines [] [] copies = refl
-    same_lines [] (y ∷ ys) copies = absurd copies
-    same_lines (x ∷ xs) [] copies = absurd copies
-    same_lines (x ∷ xs) (y ∷ ys) copies = rw (same_items x.1 y.1 copies.0.1) (ap (λ ls. vec_items x.1 ∷ ls) (same_lines xs ys copies.1))
-
-    all_same_keys : (xs ys : List (K × Vec ℕ Z)) → AreCopies xs ys → keys_of ys ≡ keys_of xs
-    all_same_keys [] [] copies = refl
-    all_same_keys [] (y ∷ ys) copies = absurd copies
-    all_same_keys (x ∷ xs) [] copies = absurd copies
-    all_same_keys (x ∷ xs) (y ∷ ys) copies = rw (same_keys x.0 y.0 copies.0.0) (ap (λ ks. x.0 ∷ ks) (all_same_keys xs ys copies.1))
-
-    copied_keyed : (xs ys : List (K × Vec ℕ Z)) → AreCopies xs ys → AllByRecursion (λ e. IsKeyOf table (numbers e.0) (vec_items e.1)) xs → AllByRecursion (λ e. IsKeyOf table (numbers e.0) (vec_items e.1)) ys
-    copied_keyed [] [] copies keyed = tt
-    copied_keyed [] (y ∷ ys) copies keyed = absurd copies
-    copied_keyed (x ∷ xs) [] copies keyed = absurd copies
-    copied_keyed (x ∷ xs) (y ∷ ys) copies keyed = (rw (same_keys x.0 y.0 copies.0.0, same_items x.1 y.1 copies.0.1) keyed.0, copied_keyed xs ys copies.1 keyed.1)
-
-    pub copied_seen : (new : List (K × Vec ℕ Z)) → AreCopies es new → lines_of new ≡ lines_of es
-    copied_seen new copies = same_lines es new copies
-
-    pub copied_are : (new : List (K × Vec ℕ Z)) → AreCopies es new → AreEntries table cmp numbers new
-    copied_are new copies =
-        let keys = all_same_keys es new copies in
-        record {
-          keyed = copied_keyed es new copies are.keyed;
-          rising = rw keys are.rising;
-          within = omega (arith, are.within, ap length keys, length-keys_of es, length-keys_of new);
-        }

@@ -1,7 +1,6 @@
 -- Rows and the pairs of their numbers, after each edit.
-use Rattle.std.proofs.Common.{◌≡◌, ◌≢◌, ℕ, Bool, true, false, true≢false, List, [], ◌∷◌, ◌++◌, filter, refl, sym, ap, subst, ◌∙◌, Option, Some, None}
-use Rattle.std.specs.Bool.{Decides}
-use Rattle.std.specs.Prelude.{All, Result, Ok, Err, IfOk, OnErr, ◌||◌, ◌==◌, unwrap_or, slice_get}
+use Rattle.std.proofs.Common.{◌≡◌, ◌≢◌, ℕ, true, false, true≢false, List, [], ◌∷◌, ◌++◌, filter, refl, sym, ap, subst, ◌∙◌, Option, Some, None}
+use Rattle.std.specs.Prelude.{All, ◌||◌, ◌==◌, unwrap_or, slice_get}
 use Rattle.std.specs.Ordering.{is_lt, is_gt}
 use Rattle.std.proofs.lemmas.Bool.{or_right}
 use Rattle.std.proofs.lemmas.Bool.Decides.{Decides-eqb}
@@ -10,10 +9,9 @@ use Rattle.gaz_num.specs.declared.words.Kind.TheVariants.{Row}
 use Rattle.gaz_num.specs.declared.words.Table.TheVariants.{Rows}
 use Rattle.gaz_pick.proofs.OrderLemmas.{by_test}
 use Rattle.gaz_plain.specs.Gazetteer.{IsLine, key_of, key_cmp, line_at, replaced}
-use Rattle.gaz_plain.specs.Places.{IsKeyOf, EndsBefore, TakesBehind, with_line, without_line}
+use Rattle.gaz_plain.specs.Places.{IsKeyOf, with_line, without_line}
 use Rattle.gaz_plain.specs.Placed.{has_pair}
 use Rattle.gaz_plain.specs.Ordered.{row_numbers, is_one_in, Keeps, KeepsBut, HasAll, AreNumbered, has_id}
-use Rattle.gaz_plain.proofs.Grown.{put_behind}
 use Rattle.gaz_plain.proofs.OrderedLemmas.{found_with, found_other, found_without, found_still}
 
 -- ids as keys
@@ -29,13 +27,6 @@ each_replaced key put rows are puts =
     (All-filter (λ row. is_gt (key_cmp (key_of Rows row) key)) (IsLine Row) rows are)
 
 module _ (rows : List (List ℕ)) (old : List (ℕ × ℕ)) (are : AreNumbered rows old) where
-  -- more pairs
-  pub still_numbered : (new : List (ℕ × ℕ)) → Keeps old new → AreNumbered rows new
-  still_numbered new keeps = record {
-    each = are.each;
-    numbered = λ id row at number is. keeps number id (are.numbered id row at number is);
-  }
-
   module _ (id : ℕ) where
     -- a row that is put, with its pairs, and then without those of the one before
     pub put_numbered : (line : List ℕ) → IsLine Row line → IsKeyOf Rows (id ∷ []) line → (one two : List (ℕ × ℕ)) → Keeps old one → HasAll id (row_numbers line) one → KeepsBut id (row_numbers line) one two → AreNumbered (with_line Rows (id ∷ []) line rows) two
@@ -67,18 +58,6 @@ module _ (rows : List (List ℕ)) (old : List (ℕ × ℕ)) (are : AreNumbered r
           but number i (are.numbered i row (sym (found_still Rows (id ∷ []) rows (i ∷ []) (apart_keys i id other)) ∙ at) number there)
           (λ tied. absurd (true≢false (sym tied ∙ other))));
     }
-
-    -- a row behind all others
-    pub behind_numbered : (line : List ℕ) → IsLine Row line → IsKeyOf Rows (id ∷ []) line → EndsBefore Rows (id ∷ []) rows → (one : List (ℕ × ℕ)) → Keeps old one → HasAll id (row_numbers line) one → (new : List (List ℕ)) → new ≡ rows ++ line ∷ [] → AreNumbered new one
-    behind_numbered line is keyed ends one keeps has new behind =
-        subst (λ ls. AreNumbered ls one) (put_behind Rows (id ∷ []) line rows ends ∙ sym behind) (put_numbered line is keyed one one keeps has (λ number i there unless. there))
-
-    -- whether it was put there or not
-    pub append_numbered : {E : Type 0} (line : List ℕ) → IsLine Row line → IsKeyOf Rows (id ∷ []) line → (one : List (ℕ × ℕ)) → Keeps old one → HasAll id (row_numbers line) one → (new : List (List ℕ)) (result : Result Bool E)
-        → IfOk result (λ fits. Decides fits (TakesBehind Rows (id ∷ []) rows)) → IfOk result (λ fits. fits ≡ true → new ≡ rows ++ line ∷ []) → IfOk result (λ fits. fits ≡ false → new ≡ rows) → OnErr result (new ≡ rows) → AreNumbered new one
-    append_numbered line is keyed one keeps has new (Ok true) fits put left err = behind_numbered line is keyed (fits.0 refl).1 one keeps has new (put refl)
-    append_numbered line is keyed one keeps has new (Ok false) fits put left err = subst (λ ls. AreNumbered ls one) (sym (left refl)) (still_numbered one keeps)
-    append_numbered line is keyed one keeps has new (Err error) fits put left err = subst (λ ls. AreNumbered ls one) (sym err) (still_numbered one keeps)
 
 -- the ids of a number are those of its pairs
 pub found_by_number : (pairs : List (ℕ × ℕ)) (number id : ℕ) → has_pair pairs number id ≡ true → has_id (filter (λ pair. number == pair.0) pairs) id ≡ true

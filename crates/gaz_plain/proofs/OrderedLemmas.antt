@@ -1,5 +1,5 @@
 -- What an order beside a list keeps, and how ids of a number stand in it.
-use Rattle.std.proofs.Common.{◌≡◌, ◌≢◌, ℕ, ◌<◌, Bool, true, false, true≢false, List, [], ◌∷◌, filter, refl, sym, ap, subst, ◌∙◌, arith, Some, None}
+use Rattle.std.proofs.Common.{◌≡◌, ◌≢◌, ℕ, ◌<◌, Bool, true, false, true≢false, List, [], ◌∷◌, filter, refl, sym, subst, ◌∙◌, arith, Some, None}
 use Rattle.std.specs.Prelude.{◌&&◌, ◌==◌}
 use Rattle.std.specs.List.{AllByRecursion}
 use Rattle.std.specs.List.Sorted.{IsStrictlySortedBy}
@@ -13,8 +13,7 @@ use Rattle.gaz_num.specs.declared.words.Table.{Table}
 use Rattle.gaz_pick.proofs.OrderLemmas.{by_test}
 use Rattle.gaz_plain.specs.Gazetteer.{line_at}
 use Rattle.gaz_plain.specs.Places.{IsKeyOf, with_line, without_line}
-use Rattle.gaz_plain.specs.Placed.{has_pair, IsEdit}
-use Rattle.gaz_plain.specs.Ordered.{is_one_in, Keeps, KeepsBut, IdsRise}
+use Rattle.gaz_plain.specs.Ordered.{is_one_in, IdsRise}
 use Rattle.gaz_plain.proofs.KeyOrder.{key_of_keyed}
 use Rattle.gaz_plain.proofs.PlacedLemmas.{pair_cmp}
 use Rattle.gaz_plain.proofs.Tables.{find-replaced, find-replaced_other}
@@ -57,33 +56,9 @@ same_itself : (n : ℕ) → (n == n) ≡ true
 same_itself n = (Decides-eqb n n).1 refl
 
 module _ (key id : ℕ) (old new : List (ℕ × ℕ)) where
-  pub put_keeps : IsEdit true key id old new → Keeps old new
-  put_keeps edit number i there =
-      edit number i ∙ by_test (key == number && id == i) (λ is. rw is refl) (λ isnt. rw isnt there)
-
-  pub put_has : IsEdit true key id old new → has_pair new key id ≡ true
-  put_has edit = let one = same_itself key in let two = same_itself id in edit key id ∙ rw (one, two) refl
-
-  pub out_keeps : (kept : List ℕ) → IsEdit false key id old new → is_one_in kept key ≡ false → KeepsBut id kept old new
-  out_keeps kept edit isnt number i there unless =
-      edit number i ∙ by_test (key == number && id == i)
-      (λ both.
-      let own : (id == i) ≡ true = right (key == number) (id == i) both in
-      let same : key ≡ number = (Decides-eqb key number).0 (left (key == number) (id == i) both) in
-      absurd (true≢false (sym (unless own) ∙ ap (is_one_in kept) (sym same) ∙ isnt)))
-      (λ other. rw other there)
-    where
-      left : (a b : Bool) → (a && b) ≡ true → a ≡ true
-      left true b both = refl
-      left false b both = both
-
-      right : (a b : Bool) → (a && b) ≡ true → b ≡ true
-      right true b both = both
-      right false b both = absurd (true≢false (sym both))
-
--- of an id nothing is kept behind what keeps all
-pub keeps_both : (id : ℕ) (kept : List ℕ) (one two three : List (ℕ × ℕ)) → KeepsBut id kept one two → KeepsBut id kept two three → KeepsBut id kept one three
-keeps_both id kept one two three first second number i there unless = second number i (first number i there unless) unless
+  right : (a b : Bool) → (a && b) ≡ true → b ≡ true
+  right true b both = both
+  right false b both = absurd (true≢false (sym both))
 
 -- the numbers of one or two
 pub one_of : (n number : ℕ) (rest : List ℕ) (P : Type 0) → is_one_in (n ∷ rest) number ≡ true → ((n ≡ number) → P) → (is_one_in rest number ≡ true → P) → P

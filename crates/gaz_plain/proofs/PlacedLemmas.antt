@@ -19,7 +19,6 @@ use Rattle.gaz_plain.specs.Places.{IsKeyOf, EndsBefore, with_line, without_line}
 use Rattle.gaz_plain.specs.Placed.{place_in, is_one_of, has_place, has_pair, IsEdit, ArePlaced}
 use Rattle.gaz_plain.proofs.KeyOrder.{key_of_keyed, All-rest}
 use Rattle.gaz_plain.proofs.Tables.{find-replaced, find-replaced_other}
-use Rattle.gaz_plain.proofs.Grown.{put_behind}
 use Rattle.gaz_plain.proofs.Steps.{alone, not_alone}
 
 -- ---- pairs in order
@@ -218,9 +217,3 @@ ends_absent id [] ends = refl
 ends_absent id (line ∷ lines) ends =
     let head : is_eq (key_cmp (key_of Alternates line) (id ∷ [])) ≡ false = ap is_eq (ends 0 line (omega arith)) in
     rw head (ends_absent id lines (λ k d below. ends (suc k) d (omega (arith, below))))
-
--- a line behind all others
-pub behind_placed : (alternates : List (List ℕ)) (pairs : List (ℕ × ℕ)) → ArePlaced alternates pairs → (id : ℕ) (line : List ℕ) (place : ℕ) → IsLine Alt line → IsKeyOf Alternates (id ∷ []) line → place_in line ≡ place → (new : List (List ℕ)) → new ≡ alternates ++ line ∷ []
-    → (one : List (ℕ × ℕ)) → IsEdit true place id pairs one → EndsBefore Alternates (id ∷ []) alternates → ArePlaced new one
-behind_placed alternates pairs placed id line place is keyed at new behind one put ends =
-    new_placed alternates pairs placed id line place is keyed at new (behind ∙ sym (put_behind Alternates (id ∷ []) line alternates ends)) one put (ap (option_map place_in) (ends_absent id alternates ends))

@@ -1,5 +1,4 @@
 pub mod Gazetteer
-pub mod Text
 pub mod Fold
 pub mod Load
 pub mod Laws

@@ -1,5 +1,5 @@
 -- A line that is put at its key, and one that is taken out.
-use Rattle.std.specs.Prelude.{◌≡◌, ℕ, ◌<◌, Bool, nat_le, List, [], ◌∷◌, length, Some, All}
+use Rattle.std.specs.Prelude.{◌≡◌, ℕ, Bool, nat_le, List, [], ◌∷◌, length, Some, All}
 use Rattle.std.specs.declared.cmp.Ordering.TheVariants.{Less}
 use Rattle.gaz_num.specs.declared.words.Table.{Table}
 use Rattle.gaz_num.specs.Check.{key_in}
@@ -24,7 +24,3 @@ without_line table key lines = replaced table key [] lines
 -- All lines have lesser keys.
 abbrev pub EndsBefore : Table → List ℕ → List (List ℕ) → Type 0
 EndsBefore table key lines = All (λ line. key_cmp (key_of table line) key ≡ Less) lines
-
--- There is room for a line with the key behind all others.
-abbrev pub TakesBehind : Table → List ℕ → List (List ℕ) → Type 0
-TakesBehind table key lines = (length lines < limit_of table) × EndsBefore table key lines

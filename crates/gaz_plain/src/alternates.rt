@@ -28,14 +28,13 @@ impl Model for Alternates {
 }
 
 impl Alternates {
-    ghost use Rattle.std.specs.Prelude.{◌≡◌, ◌≤◌, true, false, [], ◌∷◌, ◌++◌, length, All, IfOk, IfErr, OnOk, OnErr};
-    ghost use Rattle.std.specs.Bool.{Decides};
+    ghost use Rattle.std.specs.Prelude.{◌≡◌, ◌≤◌, true, false, [], ◌∷◌, length, IfOk, IfErr, OnOk, OnErr};
     ghost use Rattle.std.specs.Option.{option_copied, option_map};
     ghost use Rattle.gaz_num.specs.declared.words.Kind.TheVariants.{Alt as AltKind};
     ghost use Rattle.gaz_num.specs.declared.words.Table.TheVariants.{Alternates as AltTable};
     ghost use Rattle.gaz_plain.specs.Gazetteer.{limit_of, line_at, IsLine, IsTable};
     ghost use Rattle.gaz_plain.specs.Faults.{IsPutFault};
-    ghost use Rattle.gaz_plain.specs.Places.{IsKeyOf, TakesBehind, with_line, without_line};
+    ghost use Rattle.gaz_plain.specs.Places.{IsKeyOf, with_line, without_line};
     ghost use Rattle.gaz_plain.specs.Placed.{place_in};
     ghost use Rattle.gaz_plain.specs.Wanted.{fits_line, fits_any};
 
@@ -119,27 +118,6 @@ impl Alternates {
         }
     }
 
-    /// Puts the line behind all others, or answers `false` where its id isn't greater than theirs or the table is full.
-    pub fn append(&mut self, id: u32, line: &[u8]) -> Result<bool, AllocError>
-        requires line { IsLine AltKind line.now }
-        requires key { IsKeyOf AltTable (id ∷ []) line.now }
-        ensures fits { IfOk result (λ fits. Decides fits (TakesBehind AltTable (id ∷ []) self.old)) }
-        ensures put { IfOk result (λ fits. fits ≡ true → self.new ≡ self.old ++ line.now ∷ []) }
-        ensures left { IfOk result (λ fits. fits ≡ false → self.new ≡ self.old) }
-        ensures err { OnErr result (self.new ≡ self.old) }
-    {
-        let place = Alt::of(line).place();
-        let added = self.order.insert(place as u64, id)?;
-        let appended = self.list.append(AltId(id), line);
-        if let Ok(true) = appended {
-            return Ok(true);
-        }
-        if added {
-            self.order.remove(place as u64, id);
-        }
-        appended
-    }
-
     /// Whether one of those of the place with this id fits as a name of it.
     pub fn has_name(
         &self,
@@ -174,14 +152,5 @@ impl Alternates {
             Some(line) => wanted.fits_as(alloc, lang, place, &Alt::of(line)),
             None => Ok(false),
         }
-    }
-
-    pub fn copy(&self) -> Result<Alternates, AllocError>
-        ensures { IfOk result (λ copied. copied ≡ self.now) }
-    {
-        Ok(Alternates {
-            list: self.list.copy()?,
-            order: self.order.copy()?,
-        })
     }
 }

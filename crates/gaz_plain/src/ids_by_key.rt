@@ -56,12 +56,4 @@ impl IdsByKey {
     {
         self.pairs.range((key, 0)..=(key, u32::MAX))
     }
-
-    pub fn copy(&self) -> Result<IdsByKey, AllocError>
-        ensures { IfOk result (λ copied. copied ≡ self.now) }
-    {
-        Ok(IdsByKey {
-            pairs: self.pairs.clone()?,
-        })
-    }
 }

@@ -44,12 +44,11 @@ impl<K: TableKey> Model for LineList<K> {
 }
 
 impl<K: TableKey> LineList<K> {
-    ghost use Rattle.std.specs.Prelude.{◌≡◌, ◌≤◌, true, false, [], ◌∷◌, ◌++◌, length, IfOk, IfErr, OnOk, OnErr};
-    ghost use Rattle.std.specs.Bool.{Decides};
+    ghost use Rattle.std.specs.Prelude.{◌≡◌, ◌≤◌, true, [], length, IfErr, OnOk, OnErr};
     ghost use Rattle.std.specs.Option.{option_copied};
     ghost use Rattle.gaz_plain.specs.Gazetteer.{limit_of, line_at};
     ghost use Rattle.gaz_plain.specs.Faults.{IsPutFault};
-    ghost use Rattle.gaz_plain.specs.Places.{IsKeyOf, TakesBehind, has_room, with_line, without_line};
+    ghost use Rattle.gaz_plain.specs.Places.{IsKeyOf, has_room, with_line, without_line};
 
     pub fn new(alloc: Global) -> LineList<K>
         ensures { result ≡ [] }
@@ -88,35 +87,6 @@ impl<K: TableKey> LineList<K> {
         LineIter {
             values: self.lines.values(),
         }
-    }
-
-    /// Whether a line with the key can stand behind all others.
-    fn takes_behind(&self, key: &K) -> bool
-        ensures { Decides result (TakesBehind K.TABLE (K.numbers key.now) self.now) }
-    {
-        if self.lines.len() >= limit_of(K::TABLE) {
-            return false;
-        }
-        match self.lines.last_key_value() {
-            Some((last, _)) => last.cmp(key) == Ordering::Less,
-            None => true,
-        }
-    }
-
-    /// Puts the line behind all others, or answers `false` where its key isn't greater than theirs or the table is full.
-    pub fn append(&mut self, key: K, line: &[u8]) -> Result<bool, AllocError>
-        requires { IsKeyOf K.TABLE (K.numbers key) line.now }
-        ensures fits { IfOk result (λ fits. Decides fits (TakesBehind K.TABLE (K.numbers key) self.old)) }
-        ensures put { IfOk result (λ fits. fits ≡ true → self.new ≡ self.old ++ line.now ∷ []) }
-        ensures left { IfOk result (λ fits. fits ≡ false → self.new ≡ self.old) }
-        ensures err { OnErr result (self.new ≡ self.old) }
-    {
-        if !self.takes_behind(&key) {
-            return Ok(false);
-        }
-        let line = Vec::from_slice(self.alloc, line)?;
-        self.lines.insert(key, line)?;
-        Ok(true)
     }
 
     /// Whether a line with the key can be put: one has it, or the table isn't full.
@@ -163,15 +133,6 @@ impl<K: TableKey> LineList<K> {
         ensures within { length self.new ≤ limit_of K.TABLE }
     {
         self.lines.remove(key);
-    }
-
-    pub fn copy(&self) -> Result<LineList<K>, AllocError>
-        ensures { IfOk result (λ copied. copied ≡ self.now) }
-    {
-        Ok(LineList {
-            lines: self.lines.clone()?,
-            alloc: self.alloc,
-        })
     }
 }
 

@@ -66,13 +66,12 @@ impl Model for Links {
 }
 
 impl Links {
-    ghost use Rattle.std.specs.Prelude.{◌≡◌, ◌≤◌, ℕ, List, true, false, [], ◌∷◌, ◌++◌, length, Some, IfOk, IfErr, OnOk, OnErr};
-    ghost use Rattle.std.specs.Bool.{Decides};
+    ghost use Rattle.std.specs.Prelude.{◌≡◌, ◌≤◌, ℕ, List, true, [], ◌∷◌, length, Some, IfErr, OnOk, OnErr};
     ghost use Rattle.std.specs.Option.{option_copied};
     ghost use Rattle.gaz_num.specs.declared.words.Table.TheVariants.{Links as LinkTable};
     ghost use Rattle.gaz_plain.specs.Gazetteer.{limit_of, line_at};
     ghost use Rattle.gaz_plain.specs.Faults.{IsPutFault};
-    ghost use Rattle.gaz_plain.specs.Places.{IsKeyOf, TakesBehind, with_line};
+    ghost use Rattle.gaz_plain.specs.Places.{IsKeyOf, with_line};
     ghost use Rattle.gaz_plain.specs.Ordered.{has_id, IdsRise};
 
     pub fn new(alloc: Global) -> Links
@@ -134,26 +133,5 @@ impl Links {
         }
         insert_both(&mut self.order, &key)?;
         self.list.put(key, line)
-    }
-
-    /// Puts the line behind all others, or answers `false` where its key isn't greater than theirs or the table is full.
-    pub fn append(&mut self, key: LinkKey, line: &[u8]) -> Result<bool, AllocError>
-        requires key { IsKeyOf LinkTable (key_numbers key) line.now }
-        ensures fits { IfOk result (λ fits. Decides fits (TakesBehind LinkTable (key_numbers key) self.old)) }
-        ensures put { IfOk result (λ fits. fits ≡ true → self.new ≡ self.old ++ line.now ∷ []) }
-        ensures left { IfOk result (λ fits. fits ≡ false → self.new ≡ self.old) }
-        ensures err { OnErr result (self.new ≡ self.old) }
-    {
-        insert_both(&mut self.order, &key)?;
-        self.list.append(key, line)
-    }
-
-    pub fn copy(&self) -> Result<Links, AllocError>
-        ensures { IfOk result (λ copied. copied ≡ self.now) }
-    {
-        Ok(Links {
-            list: self.list.copy()?,
-            order: self.order.copy()?,
-        })
     }
 }

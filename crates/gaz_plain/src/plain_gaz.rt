@@ -1,5 +1,5 @@
 //! The gazetteer that is stepped on plain lists.
-ghost use Rattle.std.specs.Prelude.{◌≡◌, ℕ, List, Some, ◌≤◌, ◌+◌, ◌∷◌, ◌++◌, [], true, false, length, take, drop, slice_get, IsSome, IsTrue, IsOk, IfOk, IfErr, OnOk, OnErr, Ok};
+ghost use Rattle.std.specs.Prelude.{◌≡◌, ℕ, List, Some, ◌≤◌, ◌+◌, ◌∷◌, [], true, false, length, take, drop, slice_get, IsSome, IsTrue, IsOk, IfOk, IfErr, OnOk, OnErr, Ok};
 ghost use Rattle.std.specs.Option.{option_copied};
 ghost use Rattle.std.specs.List.{list_any};
 ghost use Rattle.gaz_parent.specs.Parent.{is_link};
@@ -8,8 +8,7 @@ ghost use Rattle.gaz_plain.specs.Ordered.{row_numbers, is_one_in, has_id, IdsRis
 ghost use Rattle.gaz_pick.specs.Order.{in_order};
 ghost use Rattle.gaz_pick.specs.Asked.{absent, asked};
 ghost use Rattle.gaz_plain.specs.Search.{matches, matching_pairs, answer_pairs};
-ghost use Rattle.gaz_plain.specs.Gazetteer.{empty, dated, is_one_line, lines_in, with_lines, line_with, after_line, IsGazetteer};
-ghost use Rattle.gaz_plain.specs.Text.{is_table};
+ghost use Rattle.gaz_plain.specs.Gazetteer.{empty, dated, is_one_line, lines_in, line_with, after_line, IsGazetteer};
 ghost use Rattle.gaz_plain.specs.Faults.{IsFaultOf};
 ghost use Rattle.gaz_plain.specs.Wanted.{wanted_of};
 
@@ -307,100 +306,6 @@ impl PlainGaz {
         self.lines(table).nth(n as usize)
     }
 
-    /// Puts a line behind all others of its table, or answers `false` where they would be no table then: where the line
-    /// fails its check, its key isn't greater than theirs, or the table is full.
-    pub fn append(&mut self, table: Table, line: &[u8]) -> Result<bool, AllocError>
-        requires dated { IsSome self.old.date }
-        requires one_line { IsTrue (is_one_line line.now) }
-        ensures fits { IfOk result (λ fits. fits ≡ is_table table (lines_in self.old table ++ line.now ∷ [])) }
-        ensures put { IfOk result (λ fits. fits ≡ true → self.new ≡ with_lines self.old table (lines_in self.old table ++ line.now ∷ [])) }
-        ensures left { IfOk result (λ fits. fits ≡ false → self.new ≡ self.old) }
-        ensures err { OnErr result (self.new ≡ self.old) }
-    {
-        match table {
-            Table::Rows => self.append_row(line),
-            Table::Alternates => self.append_alternate(line),
-            Table::Links => self.append_link(line),
-            Table::Countries => self.append_country(line),
-            Table::Codes => self.append_code(line),
-        }
-    }
-
-    /// Puts a row behind all others.
-    fn append_row(&mut self, line: &[u8]) -> Result<bool, AllocError>
-        requires dated { IsSome self.old.date }
-        requires one_line { IsTrue (is_one_line line.now) }
-        ensures fits { IfOk result (λ fits. fits ≡ is_table Table.Rows (self.old.rows ++ line.now ∷ [])) }
-        ensures put { IfOk result (λ fits. fits ≡ true → self.new ≡ with_lines self.old Table.Rows (self.old.rows ++ line.now ∷ [])) }
-        ensures left { IfOk result (λ fits. fits ≡ false → self.new ≡ self.old) }
-        ensures err { OnErr result (self.new ≡ self.old) }
-    {
-        let Ok(id) = check_row(line) else {
-            return Ok(false);
-        };
-        self.rows.append(id, line)
-    }
-
-    /// Puts an alternate name behind all others.
-    fn append_alternate(&mut self, line: &[u8]) -> Result<bool, AllocError>
-        requires dated { IsSome self.old.date }
-        requires one_line { IsTrue (is_one_line line.now) }
-        ensures fits { IfOk result (λ fits. fits ≡ is_table Table.Alternates (self.old.alternates ++ line.now ∷ [])) }
-        ensures put { IfOk result (λ fits. fits ≡ true → self.new ≡ with_lines self.old Table.Alternates (self.old.alternates ++ line.now ∷ [])) }
-        ensures left { IfOk result (λ fits. fits ≡ false → self.new ≡ self.old) }
-        ensures err { OnErr result (self.new ≡ self.old) }
-    {
-        let Ok(id) = check_alt(line) else {
-            return Ok(false);
-        };
-        self.alternates.append(id, line)
-    }
-
-    /// Puts a link behind all others.
-    fn append_link(&mut self, line: &[u8]) -> Result<bool, AllocError>
-        requires dated { IsSome self.old.date }
-        requires one_line { IsTrue (is_one_line line.now) }
-        ensures fits { IfOk result (λ fits. fits ≡ is_table Table.Links (self.old.links ++ line.now ∷ [])) }
-        ensures put { IfOk result (λ fits. fits ≡ true → self.new ≡ with_lines self.old Table.Links (self.old.links ++ line.now ∷ [])) }
-        ensures left { IfOk result (λ fits. fits ≡ false → self.new ≡ self.old) }
-        ensures err { OnErr result (self.new ≡ self.old) }
-    {
-        let Ok(key) = check_link(line) else {
-            return Ok(false);
-        };
-        self.links.append(key, line)
-    }
-
-    /// Puts a country behind all others. A comment is no line of the table.
-    fn append_country(&mut self, line: &[u8]) -> Result<bool, AllocError>
-        requires dated { IsSome self.old.date }
-        requires one_line { IsTrue (is_one_line line.now) }
-        ensures fits { IfOk result (λ fits. fits ≡ is_table Table.Countries (self.old.countries ++ line.now ∷ [])) }
-        ensures put { IfOk result (λ fits. fits ≡ true → self.new ≡ with_lines self.old Table.Countries (self.old.countries ++ line.now ∷ [])) }
-        ensures left { IfOk result (λ fits. fits ≡ false → self.new ≡ self.old) }
-        ensures err { OnErr result (self.new ≡ self.old) }
-    {
-        let Ok(Some(code)) = check_country(line) else {
-            return Ok(false);
-        };
-        self.countries.append(CountryCode::within(code), line)
-    }
-
-    /// Puts the line of an admin code behind all others.
-    fn append_code(&mut self, line: &[u8]) -> Result<bool, AllocError>
-        requires dated { IsSome self.old.date }
-        requires one_line { IsTrue (is_one_line line.now) }
-        ensures fits { IfOk result (λ fits. fits ≡ is_table Table.Codes (self.old.codes ++ line.now ∷ [])) }
-        ensures put { IfOk result (λ fits. fits ≡ true → self.new ≡ with_lines self.old Table.Codes (self.old.codes ++ line.now ∷ [])) }
-        ensures left { IfOk result (λ fits. fits ≡ false → self.new ≡ self.old) }
-        ensures err { OnErr result (self.new ≡ self.old) }
-    {
-        let Ok(code) = check_code(line) else {
-            return Ok(false);
-        };
-        self.codes.append(AdminCode::within(code), line)
-    }
-
     /// Puts the first of the rows that match into `best`, which then has those that the answer is cut from. Memory may be
     /// wanting only where a name is asked for, and `best` then has any pairs.
     pub fn select(&self, query: &Query<'_>, best: &mut Best) -> Result<(), AllocError>
@@ -457,25 +362,6 @@ impl PlainGaz {
         }
         self.alternates
             .has_name(self.rows.allocator(), wanted, query.lang, row.id())
-    }
-
-    /// An equal one, whose steps leave this one. A day is folded on a copy.
-    pub fn copy(&self) -> Result<PlainGaz, AllocError>
-        ensures { IfOk result (λ copied. copied ≡ self.now) }
-    {
-        let rows = self.rows.copy()?;
-        let alternates = self.alternates.copy()?;
-        let links = self.links.copy()?;
-        let countries = self.countries.copy()?;
-        let codes = self.codes.copy()?;
-        Ok(PlainGaz {
-            date: self.date,
-            rows,
-            alternates,
-            links,
-            countries,
-            codes,
-        })
     }
 
     /// What it stands for is a gazetteer. To call it is to know it.

@@ -83,14 +83,13 @@ impl Model for Rows {
 }
 
 impl Rows {
-    ghost use Rattle.std.specs.Prelude.{◌≡◌, ◌≤◌, ℕ, List, true, false, [], ◌∷◌, ◌++◌, length, Some, IfOk, IfErr, OnOk, OnErr};
-    ghost use Rattle.std.specs.Bool.{Decides};
+    ghost use Rattle.std.specs.Prelude.{◌≡◌, ◌≤◌, ℕ, List, true, [], ◌∷◌, length, Some, IfErr, OnOk, OnErr};
     ghost use Rattle.std.specs.Option.{option_copied};
     ghost use Rattle.gaz_num.specs.declared.words.Kind.TheVariants.{Row as RowKind};
     ghost use Rattle.gaz_num.specs.declared.words.Table.TheVariants.{Rows as RowTable};
     ghost use Rattle.gaz_plain.specs.Gazetteer.{limit_of, line_at, IsLine};
     ghost use Rattle.gaz_plain.specs.Faults.{IsPutFault};
-    ghost use Rattle.gaz_plain.specs.Places.{IsKeyOf, TakesBehind, with_line, without_line};
+    ghost use Rattle.gaz_plain.specs.Places.{IsKeyOf, with_line, without_line};
     ghost use Rattle.gaz_plain.specs.Ordered.{row_numbers, is_one_in, has_id, IdsRise};
 
     pub fn new(alloc: Global) -> Rows
@@ -172,27 +171,5 @@ impl Rows {
         let old = self.numbers_of(id);
         self.list.take_out(&RowId(id));
         remove_all(&mut self.order, &old, id, &RowNumbers::none());
-    }
-
-    /// Puts the line behind all others, or answers `false` where its id isn't greater than theirs or the table is full.
-    pub fn append(&mut self, id: u32, line: &[u8]) -> Result<bool, AllocError>
-        requires line { IsLine RowKind line.now }
-        requires key { IsKeyOf RowTable (id ∷ []) line.now }
-        ensures fits { IfOk result (λ fits. Decides fits (TakesBehind RowTable (id ∷ []) self.old)) }
-        ensures put { IfOk result (λ fits. fits ≡ true → self.new ≡ self.old ++ line.now ∷ []) }
-        ensures left { IfOk result (λ fits. fits ≡ false → self.new ≡ self.old) }
-        ensures err { OnErr result (self.new ≡ self.old) }
-    {
-        insert_all(&mut self.order, &RowNumbers::of(&Row::of(line)), id)?;
-        self.list.append(RowId(id), line)
-    }
-
-    pub fn copy(&self) -> Result<Rows, AllocError>
-        ensures { IfOk result (λ copied. copied ≡ self.now) }
-    {
-        Ok(Rows {
-            list: self.list.copy()?,
-            order: self.order.copy()?,
-        })
     }
 }

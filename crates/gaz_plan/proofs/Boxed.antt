@@ -60,10 +60,10 @@ latitude_within row = degrees_within 90 (column 5 row)
 east_most : (a b : ℤ) → IsWithin 180 a → IsWithin 180 b → a ≤ℤ b → from_antimeridian a ≤ from_antimeridian b
 east_most a b a_in b_in le = let a_low = a_in.low in let b_low = b_in.low in omega (arith, ints)
 
-east_small : (a : ℤ) → IsWithin 180 a → from_antimeridian a < 2 ^ 64
+pub east_small : (a : ℤ) → IsWithin 180 a → from_antimeridian a < 2 ^ 64
 east_small a is = let low = is.low in let high = is.high in omega (arith, ints)
 
-band_small : (latitude : ℤ) → IsWithin 90 latitude → band_of latitude < 2 ^ 16
+pub band_small : (latitude : ℤ) → IsWithin 90 latitude → band_of latitude < 2 ^ 16
 band_small latitude is = let low = is.low in let high = is.high in omega (arith, ints)
 
 -- ---- keys
@@ -80,7 +80,7 @@ pub box_tag : (band east id : ℕ) → tag_of (box_key band east id) ≡ 8
 unfolding box_key
 box_tag band east id = refl
 
-at_most : (a b : ℤ) → int_le a b ≡ true → a ≤ℤ b
+pub at_most : (a b : ℤ) → int_le a b ≡ true → a ≤ℤ b
 at_most a b is = grind (arith, ints, nat_tests, is)
 
 -- ---- the keys of a band and a range
@@ -96,7 +96,7 @@ fits_unnamed asked row none = or_left (is_nothing (wanted_of asked.name)) (fits_
 
 module _ (gaz : Gazetteer) (v : PagesView) (root : Root) (stands : IsStore gaz v root) (asked : Asked) (unnamed : asked.name ≡ absent) where
   pub span_among : (band : ℕ) (range : ℤ × ℤ) → IsWithin 180 range.0 → IsWithin 180 range.1 → (row : List ℕ) → Contains gaz.rows row → is_in_span band range row ≡ true
-      → is_among gaz asked Lying (between (key_of (box_key band (from_antimeridian range.0) 0)) (key_of (box_key band (from_antimeridian range.1) (2 ^ 32 - 1))) stands.pairs) row ≡ true
+      → is_among asked Lying (between (key_of (box_key band (from_antimeridian range.0) 0)) (key_of (box_key band (from_antimeridian range.1) (2 ^ 32 - 1))) stands.pairs) row ≡ true
   span_among band range west_in east_in row there inside =
       let here : band_at row ≡ band = (Decides-eqb (band_at row) band).0 (and_left (band_at row == band) (in_range range (longitude_of row)) inside) in
       let in_it : (int_le range.0 (longitude_of row) && int_le (longitude_of row) range.1) ≡ true = and_right (band_at row == band) (in_range range (longitude_of row)) inside in
@@ -115,7 +115,7 @@ module _ (gaz : Gazetteer) (v : PagesView) (root : Root) (stands : IsStore gaz v
       (omega (arith, number, low, here, from)) (omega (arith, number, high, here, to, small)) in
       let fits : IsKey own = more_fit Rows row own (keyed Rows row (is_line gaz v root stands Rows row there)) (own_among row) in
       let is : number_at 11 (key_of own) ≡ id_of row = ap (four_at 11) (key_bytes own fits) ∙ box_read (band_at row) (east_at row) id small in
-      has_any (λ p. stands_for gaz asked Lying p.key row) (between (key_of (box_key band (from_antimeridian range.0) 0)) (key_of (box_key band (from_antimeridian range.1) (2 ^ 32 - 1))) stands.pairs) (record { key = key_of own; value = pair.0 }) pair.1
+      has_any (λ p. stands_for asked Lying p.key row) (between (key_of (box_key band (from_antimeridian range.0) 0)) (key_of (box_key band (from_antimeridian range.1) (2 ^ 32 - 1))) stands.pairs) (record { key = key_of own; value = pair.0 }) pair.1
       (and_from (number_at 11 (key_of own) == id_of row) (fits_itself asked row) (eq-eqb (number_at 11 (key_of own)) (id_of row) is) (fits_unnamed asked row unnamed))
 
 -- ---- bands and ranges

@@ -9,3 +9,10 @@ pub mod Sought
 pub mod Tested
 pub mod Boxed
 pub mod Naming
+pub mod Counted
+pub mod Tagged
+pub mod FewRows
+pub mod FewNames
+pub mod FewBands
+pub mod Sorted
+pub mod Gathering

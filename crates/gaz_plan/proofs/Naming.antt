@@ -9,7 +9,7 @@ use Rattle.std.proofs.lemmas.Slice.Eq.{bytes_eq-Decides, starts_is}
 use Rattle.std.proofs.lemmas.Nat.{from_be_bytes-to_be_bytes_4}
 use Rattle.std.proofs.lemmas.List.{get_or-append-add}
 use Rattle.std.proofs.Math.Seq.{drop-append-add}
-use Rattle.gaz_num.proofs.CalendarLemmas.{and_right}
+use Rattle.gaz_num.proofs.CalendarLemmas.{and_left, and_right}
 use Rattle.gaz_num.proofs.ColumnTextLemmas.{column_is_text}
 use Rattle.gaz_num.specs.Pieces.{column}
 use Rattle.gaz_num.specs.declared.words.Table.{Table}
@@ -30,17 +30,20 @@ use Rattle.gaz_keys.specs.Lines.{id_at, name_at, named_key, ascii_key, row_keys,
 use Rattle.gaz_keys.proofs.Fit.{AreBytes, first_size, first_fits, id_small, line_is_text}
 use Rattle.gaz_keys.proofs.KeysFit.{more_fit}
 use Rattle.gaz_keys.proofs.NameBytes.{name_fits}
+use Rattle.gaz_rows.proofs.RoomPairs.{bytes_of}
 use Rattle.gaz_rows.specs.Store.{IsStore}
 use Rattle.gaz_rows.proofs.Fit.{keyed}
 use Rattle.gaz_rows.proofs.Members.{head_is_in, tail_is_in}
 use Rattle.gaz_kin.proofs.Bytes.{AtMost, key_most, most_append, zeros_most, bytes_most, four_least, four_most, first_least, first_most}
 use Rattle.gaz_kin.proofs.Indexed.{is_line, pair_in}
-use Rattle.gaz_plan.specs.Wanted.{wanted_of, is_nothing, fits, fits_own, fits_as, fits_other, fits_line, least_front, greatest_front}
+use Rattle.gaz_plan.specs.Wanted.{wanted_of, is_nothing, fits, fits_own, fits_as, fits_other, least_front, greatest_front}
 use Rattle.gaz_plan.specs.declared.wanted.Test.{Test}
 use Rattle.gaz_plan.specs.declared.wanted.Test.TheVariants.{Nothing, Equals, Starts}
-use Rattle.gaz_plan.specs.Ways.{number_at, source_in, fits_itself, is_itself, is_named_by, is_named, stands_for, is_among}
-use Rattle.gaz_plan.specs.declared.walk.Way.TheVariants.{Name}
-use Rattle.gaz_plan.proofs.Bools.{either, any_has, has_any}
+use Rattle.gaz_plan.specs.Ways.{number_at, fits_itself, is_named}
+use Rattle.gaz_plan.specs.Gathered.{by_alternate, candidates_of, is_alternate, is_gathered}
+use Rattle.gaz_plan.specs.Searched.{place_named}
+use Rattle.gaz_plan.proofs.Bools.{either, any_has}
+use Rattle.gaz_plan.proofs.Gathering.{candidate_other, candidate_own, gathered_from}
 use Rattle.gaz_plan.proofs.Matching.{matches_by}
 use Rattle.gaz_plan.proofs.Numbers.{key_bytes}
 use Rattle.gaz_plan.proofs.Sought.{alternate_found}
@@ -129,7 +132,7 @@ module _ (gaz : Gazetteer) (v : PagesView) (root : Root) (stands : IsStore gaz v
   name_key_is table line n source place alternate there among = more_fit table line (text_key (name_at n line) source place alternate) (keyed table line (is_line gaz v root stands table line there)) among
 
   -- a row whose own name fits
-  own_name : (row : List ℕ) (n source : ℕ) → Contains gaz.rows row → (source ≡ 0) ⊎ (source ≡ 1) → Contains (more_keys Rows row) (text_key (name_at n row) source (id_at 1 row) 0) → fits test (column n row) ≡ true → fits_itself asked row ≡ true → is_among gaz asked Name named_keys row ≡ true
+  own_name : (row : List ℕ) (n source : ℕ) → Contains gaz.rows row → (source ≡ 0) ⊎ (source ≡ 1) → Contains (more_keys Rows row) (text_key (name_at n row) source (id_at 1 row) 0) → fits test (column n row) ≡ true → fits_itself asked row ≡ true → is_gathered asked (candidates_of gaz asked named_keys) row ≡ true
   own_name row n source there own among fit itself =
       let first = name_at n row in
       let long = first_size 22 (name_key_of (column n row)) in
@@ -138,15 +141,14 @@ module _ (gaz : Gazetteer) (v : PagesView) (root : Root) (stands : IsStore gaz v
       let small : source ≤ 255 = elim own [ inl zero ↦ omega (arith, zero) | inr one ↦ omega (arith, one) ] in
       let pair = name_in Rows row n source id 0 there small among fit in
       let back = key_bytes key (name_key_is Rows row n source id 0 there among) in
-      let source_is : source_in (key_of key) ≡ source = ap (λ (k : List ℕ). slice_index k 23) back ∙ source_read first source id 0 long in
-      let not_two : (source_in (key_of key) == 2) ≡ false = elim own [ inl zero ↦ ap (λ s. s == 2) (source_is ∙ zero) | inr one ↦ ap (λ s. s == 2) (source_is ∙ one) ] in
+      let source_is : slice_index (bytes_of (key_of key)) 23 ≡ source = ap (λ (k : List ℕ). slice_index k 23) back ∙ source_read first source id 0 long in
+      let not_two : is_alternate (key_of key) ≡ false = elim own [ inl zero ↦ ap (λ s. s == 2) (source_is ∙ zero) | inr one ↦ ap (λ s. s == 2) (source_is ∙ one) ] in
       let is : number_at 24 (key_of key) ≡ id_of row = ap (four_at 24) back ∙ place_read first source id 0 long (id_small 1 row) in
-      has_any (λ p. stands_for gaz asked Name p.key row) named_keys (record { key = key_of key; value = pair.0 }) pair.1
-      (ap (λ b. if b then is_named_by gaz asked (number_at 28 (key_of key)) row else is_itself asked (number_at 24 (key_of key)) row) not_two
-      ∙ and_from (number_at 24 (key_of key) == id_of row) (fits_itself asked row) (eq-eqb (number_at 24 (key_of key)) (id_of row) is) itself)
+      gathered_from gaz asked named_keys (record { key = key_of key; value = pair.0 }) (record { place = number_at 24 (key_of key); by_own = true }) row pair.1 (candidate_own gaz asked (key_of key) not_two)
+      (and_from (number_at 24 (key_of key) == id_of row) (fits_itself asked row) (eq-eqb (number_at 24 (key_of key)) (id_of row) is) itself)
 
   -- a row of which an alternate name fits
-  other_name : (row : List ℕ) → is_named gaz asked row ≡ true → is_among gaz asked Name named_keys row ≡ true
+  other_name : (row : List ℕ) → is_named gaz asked row ≡ true → is_gathered asked (candidates_of gaz asked named_keys) row ≡ true
   other_name row named =
       let some = any_has (fits_as test asked.lang (id_of row)) gaz.alternates named in
       let line = some.0 in
@@ -159,29 +161,31 @@ module _ (gaz : Gazetteer) (v : PagesView) (root : Root) (stands : IsStore gaz v
       let among : Contains (more_keys Alternates line) key = head_is_in key [] in
       let pair = name_in Alternates line 4 2 place id some.1 (omega arith) among fit in
       let back = key_bytes key (name_key_is Alternates line 4 2 place id some.1 among) in
-      let two : (source_in (key_of key) == 2) ≡ true = ap (λ s. s == 2) (ap (λ (k : List ℕ). slice_index k 23) back ∙ source_read first 2 place id long) in
+      let two : is_alternate (key_of key) ≡ true = ap (λ s. s == 2) (ap (λ (k : List ℕ). slice_index k 23) back ∙ source_read first 2 place id long) in
       let is : number_at 28 (key_of key) ≡ id = ap (four_at 28) back ∙ alternate_read first 2 place id long (id_small 1 line) in
-      has_any (λ p. stands_for gaz asked Name p.key row) named_keys (record { key = key_of key; value = pair.0 }) pair.1
-      (ap (λ b. if b then is_named_by gaz asked (number_at 28 (key_of key)) row else is_itself asked (number_at 24 (key_of key)) row) two
-      ∙ ap (λ n. fits_line test asked.lang (id_of row) (line_with Alternates (n ∷ []) gaz)) is
-      ∙ ap (fits_line test asked.lang (id_of row)) (alternate_found gaz v root stands line some.1)
-      ∙ some.2)
+      let fits_it = and_right (is_of (id_of row) line) (fits_other test asked.lang line) some.2 in
+      gathered_from gaz asked named_keys (record { key = key_of key; value = pair.0 }) (record { place = place; by_own = false }) row pair.1
+      (candidate_other gaz asked (key_of key) two
+      ∙ ap (λ n. by_alternate (place_named test asked.lang (line_with Alternates (n ∷ []) gaz))) is
+      ∙ ap (λ l. by_alternate (place_named test asked.lang l)) (alternate_found gaz v root stands line some.1)
+      ∙ ap (λ b. by_alternate (if b then Some place else None)) fits_it)
+      (and_from (place == id_of row) true (and_left (is_of (id_of row) line) (fits_other test asked.lang line) some.2) refl)
 
   -- a row of whose own names one fits
-  by_own : (lang : Option (List ℕ)) (row : List ℕ) → Contains gaz.rows row → fits_own test lang row ≡ true → fits_itself asked row ≡ true → is_among gaz asked Name named_keys row ≡ true
+  by_own : (lang : Option (List ℕ)) (row : List ℕ) → Contains gaz.rows row → fits_own test lang row ≡ true → fits_itself asked row ≡ true → is_gathered asked (candidates_of gaz asked named_keys) row ≡ true
   by_own None row there own itself =
-      either (fits test (column 2 row)) (fits test (column 3 row) || false) (is_among gaz asked Name named_keys row ≡ true) own
+      either (fits test (column 2 row)) (fits test (column 3 row) || false) (is_gathered asked (candidates_of gaz asked named_keys) row ≡ true) own
       (λ name. own_name row 2 0 there (inl refl) (head_is_in (named_key row) (ascii_key row ∷ row_keys row)) name itself)
-      (λ more. either (fits test (column 3 row)) false (is_among gaz asked Name named_keys row ≡ true) more
+      (λ more. either (fits test (column 3 row)) false (is_gathered asked (candidates_of gaz asked named_keys) row ≡ true) more
       (λ ascii. own_name row 3 1 there (inr refl) (tail_is_in (named_key row) (ascii_key row ∷ row_keys row) (ascii_key row) (head_is_in (ascii_key row) (row_keys row))) ascii itself)
       (λ none. absurd (true≢false (sym none))))
   by_own (Some lang) row there own itself = absurd (true≢false (sym own))
 
   -- Each row that matches has a name there.
-  pub match_among : is_nothing test ≡ false → (row : List ℕ) → Contains gaz.rows row → matches gaz asked row ≡ true → is_among gaz asked Name named_keys row ≡ true
+  pub match_among : is_nothing test ≡ false → (row : List ℕ) → Contains gaz.rows row → matches gaz asked row ≡ true → is_gathered asked (candidates_of gaz asked named_keys) row ≡ true
   match_among something row there is_one = elim (matches_by gaz asked row is_one) [
     | inl itself ↦
-        either (is_nothing test) (fits_own test asked.lang row) (is_among gaz asked Name named_keys row ≡ true) itself
+        either (is_nothing test) (fits_own test asked.lang row) (is_gathered asked (candidates_of gaz asked named_keys) row ≡ true) itself
         (λ nothing. absurd (true≢false (sym nothing ∙ something)))
         (λ own. by_own asked.lang row there own itself)
     | inr named ↦ other_name row named

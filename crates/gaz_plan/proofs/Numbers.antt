@@ -1,16 +1,17 @@
 -- Keys as numbers and back, and what is read of keys of rows.
-use Rattle.std.proofs.Common.{◌≡◌, ◌<◌, ◌≤◌, ◌+◌, ◌*◌, ◌/◌, ◌%◌, ◌^◌, ℕ, zero, suc, List, [], ◌∷◌, ◌++◌, length, take, drop, refl, sym, ap, ap₂, subst, inl, inr, ◌∙◌, arith, append_assoc}
+use Rattle.std.proofs.Common.{◌≡◌, ◌<◌, ◌≤◌, ◌+◌, ◌*◌, ◌/◌, ◌%◌, ◌^◌, ℕ, List, ◌++◌, length, take, drop, sym, ap, ap₂, subst, inl, inr, ◌∙◌, arith}
 use Rattle.std.specs.Prelude.{slice_index}
 use Rattle.std.proofs.lemmas.Bool.{cases_lt}
 use Rattle.std.specs.Int.{w64, to_be_bytes}
 use Rattle.std.proofs.lemmas.Nat.{from_be_bytes-to_be_bytes_4, be_bytes_8}
-use Rattle.std.proofs.lemmas.List.{take-append-drop, take_all, length-take, length-drop, get_or_past}
+use Rattle.std.proofs.lemmas.List.{length-take, length-drop, get_or_past}
 use Rattle.gaz_leaf.specs.Node.{key_of, joined, word_at}
 use Rattle.gaz_keys.specs.Keys.{IsKey, place_key}
 use Rattle.gaz_keys.specs.Parts.{four_at}
 use Rattle.gaz_keys.proofs.KeysFit.{place_key_fits}
 use Rattle.gaz_rows.proofs.RoomPairs.{bytes_of}
 use Rattle.gaz_kin.proofs.Numbers.{byte_in}
+use Rattle.gaz_kin.proofs.Squeezed.{pieces}
 use Rattle.gaz_plan.specs.Ways.{number_at}
 
 -- ---- the bytes of a key's number are the key
@@ -23,15 +24,6 @@ four_words a b c d a_small b_small c_small d_small = (
   omega (arith, a_small, b_small, c_small, d_small),
   omega (arith, a_small, b_small, c_small, d_small),
 )
-
-drop_nothing : (n : ℕ) → drop {A = ℕ} n [] ≡ []
-drop_nothing zero = refl
-drop_nothing (suc n) = refl
-
-drop_more : (n m : ℕ) (xs : List ℕ) → drop m (drop n xs) ≡ drop (n + m) xs
-drop_more zero m xs = let is : m ≡ 0 + m = omega arith in ap (λ k. drop k xs) is
-drop_more (suc n) m [] = drop_nothing m ∙ sym (drop_nothing (suc n + m))
-drop_more (suc n) m (x ∷ xs) = let is : suc (n + m) ≡ suc n + m = omega arith in drop_more n m xs ∙ ap (λ k. drop k (x ∷ xs)) is
 
 module _ (key : List ℕ) (size : length key ≡ 32) (fits : (i : ℕ) → slice_index key i < 256) where
   byte : (at i : ℕ) → i < 8 → slice_index (take 8 (drop at key)) i ≡ slice_index key (at + i)
@@ -60,19 +52,6 @@ module _ (key : List ℕ) (size : length key ≡ 32) (fits : (i : ℕ) → slice
         | inr most ↦ subst (λ b. b < 256) (sym (get_or_past (take 8 (drop at key)) i 0 (omega (arith, most, length-take 8 (drop at key))))) (omega arith)
       ]
 
-  -- the words one after another
-  piece : (at : ℕ) → take 8 (drop at key) ++ drop (at + 8) key ≡ drop at key
-  piece at = ap (λ rest. take 8 (drop at key) ++ rest) (sym (drop_more at 8 key)) ∙ take-append-drop 8 (drop at key)
-
-  pieces : ((take 8 (drop 0 key) ++ take 8 (drop 8 key)) ++ take 8 (drop 16 key)) ++ take 8 (drop 24 key) ≡ key
-  pieces =
-      ap (λ last. ((take 8 (drop 0 key) ++ take 8 (drop 8 key)) ++ take 8 (drop 16 key)) ++ last) (take_all 8 (drop 24 key) (omega (arith, size, length-drop 24 key)))
-      ∙ append_assoc (take 8 (drop 0 key) ++ take 8 (drop 8 key)) (take 8 (drop 16 key)) (drop 24 key)
-      ∙ ap (λ rest. (take 8 (drop 0 key) ++ take 8 (drop 8 key)) ++ rest) (piece 16)
-      ∙ append_assoc (take 8 (drop 0 key)) (take 8 (drop 8 key)) (drop 16 key)
-      ∙ ap (λ rest. take 8 (drop 0 key) ++ rest) (piece 8)
-      ∙ piece 0
-
   pub number_bytes : bytes_of (key_of key) ≡ key
   unfolding key_of
   number_bytes =
@@ -82,7 +61,7 @@ module _ (key : List ℕ) (size : length key ≡ 32) (fits : (i : ℕ) → slice
       (ap₂ (λ front next. front ++ next) (word_back 0 (omega arith) _ words.0) (word_back 8 (omega arith) _ words.1))
       (word_back 16 (omega arith) _ words.2))
       (word_back 24 (omega arith) _ words.3)
-      ∙ pieces
+      ∙ pieces key size
 
 pub key_bytes : (key : List ℕ) → IsKey key → bytes_of (key_of key) ≡ key
 key_bytes key is = number_bytes key is.size each

@@ -41,7 +41,7 @@ between_few low high (p ∷ ps) = by (nat_lt p.key low) (nat_lt high p.key) refl
     by false true e f le = rw (e, f) (omega (arith, le))
     by false false e f le = rw (e, f) (omega (arith, le))
 
-tag_between : (a b c tag : ℕ) → a ≤ b → b ≤ c → tag_in a ≡ tag → tag_in c ≡ tag → tag_in b ≡ tag
+pub tag_between : (a b c tag : ℕ) → a ≤ b → b ≤ c → tag_in a ≡ tag → tag_in c ≡ tag → tag_in b ≡ tag
 tag_between a b c tag from to low high = omega (arith, from, to, low, high)
 
 module _ (gaz : Gazetteer) (v : PagesView) (root : Root) (stands : IsStore gaz v root) where
@@ -63,7 +63,7 @@ module _ (gaz : Gazetteer) (v : PagesView) (root : Root) (stands : IsStore gaz v
   abbrev pub all_rows : List Pair
   all_rows = between (key_of (place_key 0)) (key_of (place_key (2 ^ 32 - 1))) stands.pairs
 
-  pub row_among : (asked : Asked) (row : List ℕ) → Contains gaz.rows row → fits_itself asked row ≡ true → is_among gaz asked Row all_rows row ≡ true
+  pub row_among : (asked : Asked) (row : List ℕ) → Contains gaz.rows row → fits_itself asked row ≡ true → is_among asked Row all_rows row ≡ true
   row_among asked row there fits =
       let id = id_at 1 row in
       let small = id_small 1 row in
@@ -73,7 +73,7 @@ module _ (gaz : Gazetteer) (v : PagesView) (root : Root) (stands : IsStore gaz v
       let pair = pair_in gaz v root stands (key_of (place_key 0)) (key_of (place_key (2 ^ 32 - 1))) Rows row (place_key id) there (head_is_in (place_key id) (more_keys Rows row))
       (omega (arith, number, low)) (omega (arith, number, high, small)) in
       let is : number_at 1 (key_of (place_key id)) ≡ id_of row = row_id id small in
-      has_any (λ p. stands_for gaz asked Row p.key row) all_rows (record { key = key_of (place_key id); value = pair.0 }) pair.1
+      has_any (λ p. stands_for asked Row p.key row) all_rows (record { key = key_of (place_key id); value = pair.0 }) pair.1
       (and_from (number_at 1 (key_of (place_key id)) == id_of row) (fits_itself asked row) (eq-eqb (number_at 1 (key_of (place_key id))) (id_of row) is) fits)
 
   -- an alternate name is found by its id

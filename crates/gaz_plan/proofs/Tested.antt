@@ -1,5 +1,5 @@
 -- Rows that were tested by themselves, and by an alternate name.
-use Rattle.std.proofs.Common.{◌≡◌, ℕ, true, true≢false, List, [], ◌∷◌, refl, sym, ap, subst, ◌∙◌, Option, Some, None}
+use Rattle.std.proofs.Common.{◌≡◌, ℕ, Bool, true, List, [], ◌∷◌, refl, sym, ap, subst, ◌∙◌, Option, Some, None}
 use Rattle.std.specs.Prelude.{Contains, ◌==◌, unwrap_or}
 use Rattle.std.specs.Ordering.{is_eq}
 use Rattle.std.proofs.lemmas.Bool.{and_from}
@@ -19,9 +19,9 @@ use Rattle.gaz_plain.specs.Search.{matches}
 use Rattle.gaz_plain.proofs.Sought.{all_found}
 use Rattle.gaz_keys.specs.Lines.{id_at}
 use Rattle.gaz_rows.proofs.Members.{head_is_in, tail_is_in}
-use Rattle.gaz_plan.specs.Wanted.{wanted_of, fits_other, fits_as, fits_line}
+use Rattle.gaz_plan.specs.Wanted.{wanted_of, fits_other, fits_as, fits_any}
 use Rattle.gaz_plan.specs.Seen.{SeesMore}
-use Rattle.gaz_plan.specs.Ways.{fits_itself, is_itself, is_named_by, is_named}
+use Rattle.gaz_plan.specs.Ways.{fits_itself, is_itself, is_named}
 use Rattle.gaz_plan.specs.Searched.{after_test, after_found, takes_row, place_named}
 use Rattle.gaz_plan.proofs.Bools.{has_any}
 use Rattle.gaz_plan.proofs.Matching.{matches_passes, matches_takes, takes_matches, other_matches}
@@ -40,6 +40,34 @@ line_there table key line (l ∷ ls) at =
 
 none_some : {X : Type 0} (x : X) → None ≡ Some x → ⊥
 none_some x is = cc
+
+module _ (gaz : Gazetteer) (asked : Asked) where
+  -- The alternate name fits, and is one of a place.
+  record IsNameOf (alternate place : ℕ) : Type 0 where
+    line : List ℕ
+    found : line_with Alternates (alternate ∷ []) gaz ≡ Some line
+    fits : fits_other (wanted_of asked.name) asked.lang line ≡ true
+    of : place ≡ id_at 2 line
+
+  name_of : (alternate place : ℕ) → Some place ≡ place_named (wanted_of asked.name) asked.lang (line_with Alternates (alternate ∷ []) gaz) → IsNameOf alternate place
+  name_of alternate place some = by (line_with Alternates (alternate ∷ []) gaz) refl some
+    where
+      some_is : (a b : ℕ) → Some a ≡ Some b → a ≡ b
+      some_is a b same = ap (λ (o : Option ℕ). unwrap_or o 0) same
+
+      by : (l : Option (List ℕ)) → line_with Alternates (alternate ∷ []) gaz ≡ l → Some place ≡ place_named (wanted_of asked.name) asked.lang l → IsNameOf alternate place
+      by None at some = absurd (none_some place (sym some))
+      by (Some l) at some =
+          by_test (fits_other (wanted_of asked.name) asked.lang l)
+          (λ fit. record { line = l; found = at; fits = fit; of = some_is place (id_at 2 l) (rw fit at some) })
+          (λ unfit. absurd (none_some place (sym (rw unfit at some))))
+
+  -- so an alternate name led to the place
+  pub led_to : (alternate place : ℕ) → Some place ≡ place_named (wanted_of asked.name) asked.lang (line_with Alternates (alternate ∷ []) gaz) → fits_any (wanted_of asked.name) asked.lang place gaz.alternates ≡ true
+  led_to alternate place some =
+      let name = name_of alternate place some in
+      has_any (fits_as (wanted_of asked.name) asked.lang place) gaz.alternates name.line (line_there Alternates (alternate ∷ []) name.line gaz.alternates name.found)
+      (and_from (is_of place name.line) (fits_other (wanted_of asked.name) asked.lang name.line) ((Decides-eqb (id_at 2 name.line) place).1 (sym name.of)) name.fits)
 
 module _ (gaz : Gazetteer) (is : IsGazetteer gaz) (asked : Asked) (keep : ℕ) (next : FirstOfNext) where
   -- a row that was tested by its own names
@@ -61,66 +89,21 @@ module _ (gaz : Gazetteer) (is : IsGazetteer gaz) (asked : Asked) (keep : ℕ) (
           let ids : id ≡ id_of r = (Decides-eqb id (id_of r)).0 (and_left (id == id_of r) (fits_itself asked r) itself) in
           none_some r (sym none ∙ ap (λ n. line_with Rows (n ∷ []) gaz) ids ∙ all_found gaz.rows r (is.tables Rows) at_r)
 
-  module _ (alternate : ℕ) (line : Option (List ℕ)) (line_is : line_with Alternates (alternate ∷ []) gaz ≡ line) where
-    -- the alternate name doesn't fit, or there is none
-    unnamed : None ≡ place_named (wanted_of asked.name) asked.lang line → (row : List ℕ) → is_named_by gaz asked alternate row ≡ true → ⊥
-    unnamed none row named = by line none (sym (ap (fits_line (wanted_of asked.name) asked.lang (id_of row)) line_is) ∙ named)
-      where
-        by : (l : Option (List ℕ)) → None ≡ place_named (wanted_of asked.name) asked.lang l → fits_line (wanted_of asked.name) asked.lang (id_of row) l ≡ true → ⊥
-        by None without fit = true≢false (sym fit)
-        by (Some l) without fit =
-            let fits = and_right (is_of (id_of row) l) (fits_other (wanted_of asked.name) asked.lang l) fit in
-            none_some (id_at 2 l) (rw fits at without)
-
-  pub unnamed_sees : (alternate : ℕ) (old : List Pair) → None ≡ place_named (wanted_of asked.name) asked.lang (line_with Alternates (alternate ∷ []) gaz) → SeesMore gaz asked keep (is_named_by gaz asked alternate) old old
-  unnamed_sees alternate old none = sees_nothing gaz is asked keep (is_named_by gaz asked alternate) old (λ row at is_one named. unnamed alternate (line_with Alternates (alternate ∷ []) gaz) refl none row named)
-
-  -- The alternate name fits, and is one of a place.
-  record IsNameOf (alternate place : ℕ) : Type 0 where
-    line : List ℕ
-    found : line_with Alternates (alternate ∷ []) gaz ≡ Some line
-    fits : fits_other (wanted_of asked.name) asked.lang line ≡ true
-    of : place ≡ id_at 2 line
-
-  name_of : (alternate place : ℕ) → Some place ≡ place_named (wanted_of asked.name) asked.lang (line_with Alternates (alternate ∷ []) gaz) → IsNameOf alternate place
-  name_of alternate place some = by (line_with Alternates (alternate ∷ []) gaz) refl some
+  -- the row of a place to which an alternate name led was tested by its columns
+  pub passing_sees : (place : ℕ) (more : List ℕ → Bool) → ((r : List ℕ) → more r ≡ true → place ≡ id_of r) → fits_any (wanted_of asked.name) asked.lang place gaz.alternates ≡ true
+      → (old new : List Pair) → new ≡ after_found asked keep (line_with Rows (place ∷ []) gaz) old → SeesMore gaz asked keep more old new
+  passing_sees place more only led old new held = by (line_with Rows (place ∷ []) gaz) refl held
     where
-      some_is : (a b : ℕ) → Some a ≡ Some b → a ≡ b
-      some_is a b same = ap (λ (o : Option ℕ). unwrap_or o 0) same
-
-      by : (l : Option (List ℕ)) → line_with Alternates (alternate ∷ []) gaz ≡ l → Some place ≡ place_named (wanted_of asked.name) asked.lang l → IsNameOf alternate place
-      by None at some = absurd (none_some place (sym some))
-      by (Some l) at some =
-          by_test (fits_other (wanted_of asked.name) asked.lang l)
-          (λ fit. record { line = l; found = at; fits = fit; of = some_is place (id_at 2 l) (rw fit at some) })
-          (λ unfit. absurd (none_some place (sym (rw unfit at some))))
-
-  -- the row of the place of an alternate name that fits was tested by its columns
-  pub named_sees : (alternate place : ℕ) → Some place ≡ place_named (wanted_of asked.name) asked.lang (line_with Alternates (alternate ∷ []) gaz)
-      → (old new : List Pair) → new ≡ after_found asked keep (line_with Rows (place ∷ []) gaz) old → SeesMore gaz asked keep (is_named_by gaz asked alternate) old new
-  named_sees alternate place some old new held = by (line_with Rows (place ∷ []) gaz) refl held
-    where
-      name : IsNameOf alternate place
-      name = name_of alternate place some
-
-      -- a row that it names has the id
-      id_named : (r : List ℕ) → is_named_by gaz asked alternate r ≡ true → place ≡ id_of r
-      id_named r named =
-          let fit : fits_as (wanted_of asked.name) asked.lang (id_of r) name.line ≡ true = sym (ap (fits_line (wanted_of asked.name) asked.lang (id_of r)) name.found) ∙ named in
-          name.of ∙ (Decides-eqb (id_at 2 name.line) (id_of r)).0 (and_left (is_of (id_of r) name.line) (fits_other (wanted_of asked.name) asked.lang name.line) fit)
-
-      by : (found : Option (List ℕ)) → line_with Rows (place ∷ []) gaz ≡ found → new ≡ after_found asked keep found old → SeesMore gaz asked keep (is_named_by gaz asked alternate) old new
+      by : (found : Option (List ℕ)) → line_with Rows (place ∷ []) gaz ≡ found → new ≡ after_found asked keep found old → SeesMore gaz asked keep more old new
       by None at held =
-          subst (λ pairs. SeesMore gaz asked keep (is_named_by gaz asked alternate) old pairs) (sym held)
-          (sees_nothing gaz is asked keep (is_named_by gaz asked alternate) old
-          (λ r at_r is_r named. none_some r (sym at ∙ ap (λ n. line_with Rows (n ∷ []) gaz) (id_named r named) ∙ all_found gaz.rows r (is.tables Rows) at_r)))
+          subst (λ pairs. SeesMore gaz asked keep more old pairs) (sym held)
+          (sees_nothing gaz is asked keep more old
+          (λ r at_r is_r of. none_some r (sym at ∙ ap (λ n. line_with Rows (n ∷ []) gaz) (only r of) ∙ all_found gaz.rows r (is.tables Rows) at_r)))
       by (Some row) at held =
           let there = found_at gaz is asked keep place row at in
-          let own : (id_at 2 name.line == id_of row) ≡ true = (Decides-eqb (id_at 2 name.line) (id_of row)).1 (sym name.of ∙ sym there.1) in
-          let has : is_named gaz asked row ≡ true = has_any (fits_as (wanted_of asked.name) asked.lang (id_of row)) gaz.alternates name.line (line_there Alternates (alternate ∷ []) name.line gaz.alternates name.found)
-          (and_from (is_of (id_of row) name.line) (fits_other (wanted_of asked.name) asked.lang name.line) own name.fits) in
-          tested_row gaz is asked keep next row there.0 (passes_all asked row) (λ passes. other_matches gaz asked row passes has) (is_named_by gaz asked alternate)
-          (λ r at_r is_r named.
-          let same : r ≡ row = one_row gaz is asked keep r row at_r there.0 (sym (id_named r named) ∙ sym there.1) in
+          let has : is_named gaz asked row ≡ true = ap (λ id. fits_any (wanted_of asked.name) asked.lang id gaz.alternates) there.1 ∙ led in
+          tested_row gaz is asked keep next row there.0 (passes_all asked row) (λ passes. other_matches gaz asked row passes has) more
+          (λ r at_r is_r of.
+          let same : r ≡ row = one_row gaz is asked keep r row at_r there.0 (sym (only r of) ∙ sym there.1) in
           (same, subst (λ x. passes_all asked x ≡ true) same (matches_passes gaz asked r is_r)))
           old new held

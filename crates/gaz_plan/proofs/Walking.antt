@@ -21,7 +21,7 @@ module _ (gaz : Gazetteer) (is : IsGazetteer gaz) (asked : Asked) (keep : ℕ) (
     pub comes : Comes pages scan rest
     pub count : length left ≡ turns + length rest
     pub part : (p : Pair) → Contains rest p → Contains left p
-    pub goes_on : (new : List Picked) → SeesMore gaz asked keep (is_among gaz asked way rest) now new → SeesMore gaz asked keep (is_among gaz asked way left) start new
+    pub goes_on : (new : List Picked) → SeesMore gaz asked keep (is_among asked way rest) now new → SeesMore gaz asked keep (is_among asked way left) start new
 
   pub pending_first : (pages : ℕ → List ℕ) (scan : Scan) (left : List Pair) (start : List Picked) → Comes pages scan left → ArePending 0 pages scan left start start
   pending_first pages scan left start comes = record { rest = left; comes = comes; count = omega arith; part = λ p has. has; goes_on = λ new more. more }
@@ -47,12 +47,12 @@ module _ (gaz : Gazetteer) (is : IsGazetteer gaz) (asked : Asked) (keep : ℕ) (
           part = λ q has. p.part q (subst (λ pairs. Contains pairs q) (sym n.first) (tail_is_in n.pair n.rest q has));
           goes_on = λ later more.
               p.goes_on later
-              (subst (λ pairs. SeesMore gaz asked keep (is_among gaz asked way pairs) now later) (sym n.first)
-              (sees_both gaz is asked keep (stands_for gaz asked way n.pair.key) (is_among gaz asked way n.rest) now after later sees.1 more));
+              (subst (λ pairs. SeesMore gaz asked keep (is_among asked way pairs) now later) (sym n.first)
+              (sees_both gaz is asked keep (stands_for asked way n.pair.key) (is_among asked way n.rest) now after later sees.1 more));
         }
 
     -- none was left
-    pub pending_none : (new : ℕ → List ℕ) (scan_now : Scan) (after : List Picked) → SeesNext gaz asked way keep new scan_now p.rest now after false → SeesMore gaz asked keep (is_among gaz asked way left) start after
+    pub pending_none : (new : ℕ → List ℕ) (scan_now : Scan) (after : List Picked) → SeesNext gaz asked way keep new scan_now p.rest now after false → SeesMore gaz asked keep (is_among asked way left) start after
     pending_none new scan_now after sees =
-        subst (λ pairs. SeesMore gaz asked keep (is_among gaz asked way left) start pairs) (sym sees.1)
-        (p.goes_on now (subst (λ pairs. SeesMore gaz asked keep (is_among gaz asked way pairs) now now) (sym sees.0) (sees_nothing gaz is asked keep (is_among gaz asked way []) now (λ row at is_one other. true≢false (sym other)))))
+        subst (λ pairs. SeesMore gaz asked keep (is_among asked way left) start pairs) (sym sees.1)
+        (p.goes_on now (subst (λ pairs. SeesMore gaz asked keep (is_among asked way pairs) now now) (sym sees.0) (sees_nothing gaz is asked keep (is_among asked way []) now (λ row at is_one other. true≢false (sym other)))))

@@ -3,3 +3,5 @@ pub mod Seen
 pub mod Ways
 pub mod Searched
 pub mod Boxes
+pub mod Candidates
+pub mod Gathered

@@ -89,5 +89,5 @@ pub record IsFirst (pages : ℕ → List ℕ) (scan : Scan) (left : List Pair) :
 
 -- The rows for which the next key stands were seen; or none was left.
 abbrev pub SeesNext : Gazetteer → Asked → Way → ℕ → (ℕ → List ℕ) → Scan → List Pair → List Picked → List Picked → Bool → Type 0
-SeesNext gaz asked way keep pages scan left old new true = (next : IsFirst pages scan left) × SeesMore gaz asked keep (stands_for gaz asked way next.pair.key) old new
+SeesNext gaz asked way keep pages scan left old new true = (next : IsFirst pages scan left) × SeesMore gaz asked keep (stands_for asked way next.pair.key) old new
 SeesNext gaz asked way keep pages scan left old new false = (left ≡ []) × (new ≡ old)

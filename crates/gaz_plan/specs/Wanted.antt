@@ -1,5 +1,5 @@
 -- What is asked of names, with the key of the value.
-use Rattle.std.specs.Prelude.{ℕ, ◌-◌, min, Bool, true, false, ◌&&◌, List, ◌++◌, length, take, replicate, Option, Some, None, nat_eq}
+use Rattle.std.specs.Prelude.{ℕ, ◌-◌, min, Bool, true, false, ◌&&◌, List, ◌++◌, length, take, replicate, Option, nat_eq}
 use Rattle.std.specs.Str.{bytes_eq}
 use Rattle.std.specs.List.{list_any, starts_with}
 use Rattle.gaz_num.specs.Pieces.{column}
@@ -37,11 +37,6 @@ fits_other test lang alternate = counts_in lang alternate && fits test (column 4
 -- whether an alternate name is one of the place with this id, counts, and has a text that does
 abbrev pub fits_as : Test → Option (List ℕ) → ℕ → List ℕ → Bool
 fits_as test lang id alternate = is_of id alternate && fits_other test lang alternate
-
--- whether there is an alternate name and it does
-abbrev pub fits_line : Test → Option (List ℕ) → ℕ → Option (List ℕ) → Bool
-fits_line test lang id None = false
-fits_line test lang id (Some alternate) = fits_as test lang id alternate
 
 -- whether one of these alternate names does
 abbrev pub fits_any : Test → Option (List ℕ) → ℕ → List (List ℕ) → Bool

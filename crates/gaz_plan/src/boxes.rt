@@ -1,5 +1,5 @@
 //! A search by where rows lie, in which nothing is asked of names.
-ghost use Rattle.std.specs.Prelude.{◌≡◌, ◌≤◌, length, IfErr, OnOk};
+ghost use Rattle.std.specs.Prelude.{◌≡◌, ◌≤◌, ◌+◌, ◌*◌, length, filter, IfErr, OnOk};
 ghost use Rattle.gaz_box.specs.Edges.{IsWithin};
 ghost use Rattle.gaz_box.specs.View.{edges_of};
 ghost use Rattle.gaz_pick.specs.Asked.{absent, asked};
@@ -8,6 +8,7 @@ ghost use Rattle.gaz_kin.specs.Over.{OverStore};
 ghost use Rattle.gaz_plan.specs.Wanted.{wanted_of};
 ghost use Rattle.gaz_plan.specs.Seen.{SeesMore};
 ghost use Rattle.gaz_plan.specs.Boxes.{from_antimeridian, is_in_span, is_in_band, is_in_box};
+ghost use Rattle.gaz_plan.specs.Candidates.{rows_in_bands, bands_in};
 ghost use Rattle.gaz_plan.specs.Searched.{HasSearched};
 
 use crate::walk::{Way, offer_range};
@@ -51,6 +52,8 @@ fn offer_span<P: Pages>(
     ensures no_memory { IfErr result TakesNoMemory }
     ensures size { length buf.new ≡ length buf.old }
     ensures asked { HasSearched (P.view store.old.pages) (P.view store.new.pages) result }
+    ensures reads { OverStore (P.view store.old.pages) store.old.root
+        (λ gaz. (P.view store.new.pages).reads ≤ (P.view store.old.pages).reads + 64 * (length (filter (is_in_span band range) gaz.rows) + 1)) }
     ensures root { store.new.root ≡ store.old.root }
     ensures keeps { P.keeps store.old.pages store.new.pages }
 {
@@ -79,6 +82,8 @@ fn offer_band<P: Pages>(
     ensures no_memory { IfErr result TakesNoMemory }
     ensures size { length buf.new ≡ length buf.old }
     ensures asked { HasSearched (P.view store.old.pages) (P.view store.new.pages) result }
+    ensures reads { OverStore (P.view store.old.pages) store.old.root
+        (λ gaz. (P.view store.new.pages).reads ≤ (P.view store.old.pages).reads + 64 * (length (filter (is_in_band band (edges_of edges.now)) gaz.rows) + 2)) }
     ensures root { store.new.root ≡ store.old.root }
     ensures keeps { P.keeps store.old.pages store.new.pages }
 {
@@ -112,6 +117,8 @@ pub(crate) fn offer_box<P: Pages>(
     ensures no_memory { IfErr result TakesNoMemory }
     ensures size { length buf.new ≡ length buf.old }
     ensures asked { HasSearched (P.view store.old.pages) (P.view store.new.pages) result }
+    ensures reads { OverStore (P.view store.old.pages) store.old.root
+        (λ gaz. (P.view store.new.pages).reads ≤ (P.view store.old.pages).reads + 64 * (rows_in_bands gaz (edges_of edges.now) + 2 * bands_in (edges_of edges.now))) }
     ensures root { store.new.root ≡ store.old.root }
     ensures keeps { P.keeps store.old.pages store.new.pages }
 {

@@ -1,5 +1,5 @@
 //! Rows that are offered to the first answers, if they have all that is asked.
-ghost use Rattle.std.specs.Prelude.{◌≡◌, ◌≢◌, ◌≤◌, ◌∷◌, [], ℕ, length, IfOk, IfErr, OnOk, IsOk};
+ghost use Rattle.std.specs.Prelude.{◌≡◌, ◌≤◌, ◌+◌, ◌∷◌, [], ℕ, length, IfOk, IfErr, OnOk, IsOk};
 ghost use Rattle.gaz_pick.specs.Asked.{absent, asked};
 ghost use Rattle.gaz_pick.specs.Match.{pair_of};
 ghost use Rattle.gaz_num.specs.declared.words.Table.TheVariants.{Rows, Alternates};
@@ -8,7 +8,7 @@ ghost use Rattle.gaz_plan.specs.Wanted.{wanted_of};
 ghost use Rattle.gaz_rows.specs.Store.{IsUndamaged, TakesNoMemory};
 ghost use Rattle.gaz_kin.specs.Over.{OverStore};
 ghost use Rattle.gaz_plan.specs.Seen.{SeesMore};
-ghost use Rattle.gaz_plan.specs.Ways.{number_at, is_itself, is_named_by};
+ghost use Rattle.gaz_plan.specs.Ways.{number_at, is_itself};
 ghost use Rattle.gaz_plan.specs.Searched.{HasSearched, OverKey, after_test, after_found, takes_row, place_named};
 
 use crate::found::{find_alternate, find_row, row_at};
@@ -76,6 +76,7 @@ pub(crate) fn offer_at<P: Pages>(
     ensures absent { (asked query.now).name ≡ absent → IfErr result TakesNoMemory }
     ensures size { length buf.new ≡ length buf.old }
     ensures asked { HasSearched (P.view store.old.pages) (P.view store.new.pages) result }
+    ensures reads { (P.view store.new.pages).reads ≤ (P.view store.old.pages).reads + 17 }
     ensures root { store.new.root ≡ store.old.root }
     ensures keeps { P.keeps store.old.pages store.new.pages }
 {
@@ -104,6 +105,7 @@ pub(crate) fn offer_row<P: Pages>(
     ensures absent { (asked query.now).name ≡ absent → IfErr result TakesNoMemory }
     ensures size { length buf.new ≡ length buf.old }
     ensures asked { HasSearched (P.view store.old.pages) (P.view store.new.pages) result }
+    ensures reads { (P.view store.new.pages).reads ≤ (P.view store.old.pages).reads + (store.old.root.height + 17) }
     ensures root { store.new.root ≡ store.old.root }
     ensures keeps { P.keeps store.old.pages store.new.pages }
 {
@@ -116,7 +118,7 @@ pub(crate) fn offer_row<P: Pages>(
 }
 
 /// The place of which the alternate name with an id is one, if there is one and it fits.
-fn place_named<P: Pages>(
+pub(crate) fn place_named<P: Pages>(
     store: &mut RowStore<P>,
     alternate: u32,
     query: &Query<'_>,
@@ -130,6 +132,7 @@ fn place_named<P: Pages>(
     ensures damaged { IfErr result (λ fault. OverStore (P.view store.old.pages) store.old.root (λ gaz. IsUndamaged fault)) }
     ensures size { length buf.new ≡ length buf.old }
     ensures asked { HasSearched (P.view store.old.pages) (P.view store.new.pages) result }
+    ensures reads { (P.view store.new.pages).reads ≤ (P.view store.old.pages).reads + (store.old.root.height + 17) }
     ensures root { store.new.root ≡ store.old.root }
     ensures keeps { P.keeps store.old.pages store.new.pages }
 {
@@ -147,7 +150,7 @@ fn place_named<P: Pages>(
 }
 
 /// Offers the row with an id, if there is one and its columns pass.
-fn offer_passing<P: Pages>(
+pub(crate) fn offer_passing<P: Pages>(
     store: &mut RowStore<P>,
     id: u32,
     query: &Query<'_>,
@@ -161,6 +164,7 @@ fn offer_passing<P: Pages>(
     ensures damaged { IfErr result (λ fault. OverStore (P.view store.old.pages) store.old.root (λ gaz. IsUndamaged fault)) }
     ensures size { length buf.new ≡ length buf.old }
     ensures asked { HasSearched (P.view store.old.pages) (P.view store.new.pages) result }
+    ensures reads { (P.view store.new.pages).reads ≤ (P.view store.old.pages).reads + (store.old.root.height + 17) }
     ensures root { store.new.root ≡ store.old.root }
     ensures keeps { P.keeps store.old.pages store.new.pages }
 {
@@ -174,33 +178,4 @@ fn offer_passing<P: Pages>(
         best.offer(row.population(), row.id());
     }
     Ok(())
-}
-
-/// Offers the row of which the alternate name with an id is one, if that fits.
-pub(crate) fn offer_named<P: Pages>(
-    store: &mut RowStore<P>,
-    alternate: u32,
-    query: &Query<'_>,
-    wanted: &Wanted,
-    best: &mut Best,
-    buf: &mut [u8],
-) -> Result<(), AskFault>
-    requires room { 65535 ≤ length buf.old }
-    requires wanted { wanted.now.test ≡ wanted_of (asked query.now).name }
-    requires named { (asked query.now).name ≢ absent }
-    ensures keep { best.new.keep ≡ best.old.keep }
-    ensures more { OnOk result (OverStore (P.view store.old.pages) store.old.root
-        (λ gaz. SeesMore gaz (asked query.now) best.old.keep (is_named_by gaz (asked query.now) alternate) best.old.pairs best.new.pairs)) }
-    ensures damaged { IfErr result (λ fault. OverStore (P.view store.old.pages) store.old.root (λ gaz. IsUndamaged fault)) }
-    ensures size { length buf.new ≡ length buf.old }
-    ensures asked { HasSearched (P.view store.old.pages) (P.view store.new.pages) result }
-    ensures root { store.new.root ≡ store.old.root }
-    ensures keeps { P.keeps store.old.pages store.new.pages }
-{
-    first_of_more();
-    match place_named(store, alternate, query, wanted, buf) {
-        Ok(Some(place)) => offer_passing(store, place, query, best, buf),
-        Ok(None) => Ok(()),
-        Err(fault) => Err(fault),
-    }
 }

@@ -8,9 +8,11 @@ ghost use Rattle.gaz_rows.specs.Store.{IsUndamaged, TakesNoMemory};
 ghost use Rattle.gaz_kin.specs.Over.{OverStore};
 ghost use Rattle.gaz_plan.specs.Seen.{SeesMore};
 ghost use Rattle.gaz_plan.specs.Ways.{fits_itself};
+ghost use Rattle.gaz_plan.specs.Candidates.{reads_for, most_reads};
 ghost use Rattle.gaz_plan.specs.Searched.{HasSearched};
 
 use crate::boxes::offer_box;
+use crate::gather::offer_names;
 use crate::walk::{Way, offer_range};
 use crate::wanted::Wanted;
 use gaz_keys::{place_key, text_key};
@@ -36,6 +38,8 @@ fn offer_rows<P: Pages>(
     ensures absent { (asked query.now).name ≡ absent → IfErr result TakesNoMemory }
     ensures size { length buf.new ≡ length buf.old }
     ensures asked { HasSearched (P.view store.old.pages) (P.view store.new.pages) result }
+    ensures reads { OverStore (P.view store.old.pages) store.old.root
+        (λ gaz. (P.view store.new.pages).reads ≤ (P.view store.old.pages).reads + reads_for (length gaz.rows) 0) }
     ensures root { store.new.root ≡ store.old.root }
     ensures keeps { P.keeps store.old.pages store.new.pages }
 {
@@ -62,6 +66,8 @@ fn offer_unnamed<P: Pages>(
     ensures no_memory { IfErr result TakesNoMemory }
     ensures size { length buf.new ≡ length buf.old }
     ensures asked { HasSearched (P.view store.old.pages) (P.view store.new.pages) result }
+    ensures reads { OverStore (P.view store.old.pages) store.old.root
+        (λ gaz. (P.view store.new.pages).reads ≤ (P.view store.old.pages).reads + most_reads gaz (asked query.now)) }
     ensures root { store.new.root ≡ store.old.root }
     ensures keeps { P.keeps store.old.pages store.new.pages }
 {
@@ -88,12 +94,14 @@ fn offer_by_names<P: Pages>(
     ensures damaged { IfErr result (λ fault. OverStore (P.view store.old.pages) store.old.root (λ gaz. IsUndamaged fault)) }
     ensures size { length buf.new ≡ length buf.old }
     ensures asked { HasSearched (P.view store.old.pages) (P.view store.new.pages) result }
+    ensures reads { OverStore (P.view store.old.pages) store.old.root
+        (λ gaz. (P.view store.new.pages).reads ≤ (P.view store.old.pages).reads + most_reads gaz (asked query.now)) }
     ensures root { store.new.root ≡ store.old.root }
     ensures keeps { P.keeps store.old.pages store.new.pages }
 {
     let low = text_key(&wanted.least_front(), 0, 0, 0);
     let high = text_key(&wanted.greatest_front(), u8::MAX, u32::MAX, u32::MAX);
-    offer_range(store, Way::Name, &low, &high, query, wanted, best, buf)
+    offer_names(store, &low, &high, query, wanted, best, buf)
 }
 
 /// Offers the rows that match.
@@ -113,6 +121,8 @@ fn offer_matching<P: Pages>(
     ensures absent { (asked query.now).name ≡ absent → IfErr result TakesNoMemory }
     ensures size { length buf.new ≡ length buf.old }
     ensures asked { HasSearched (P.view store.old.pages) (P.view store.new.pages) result }
+    ensures reads { OverStore (P.view store.old.pages) store.old.root
+        (λ gaz. (P.view store.new.pages).reads ≤ (P.view store.old.pages).reads + most_reads gaz (asked query.now)) }
     ensures root { store.new.root ≡ store.old.root }
     ensures keeps { P.keeps store.old.pages store.new.pages }
 {
@@ -144,6 +154,8 @@ pub fn search<P: Pages>(
     ensures damaged { IfErr result (λ fault. OverStore (P.view store.old.pages) store.old.root (λ gaz. IsUndamaged fault)) }
     ensures size { length buf.new ≡ length buf.old }
     ensures asked { HasSearched (P.view store.old.pages) (P.view store.new.pages) result }
+    ensures reads { OverStore (P.view store.old.pages) store.old.root
+        (λ gaz. (P.view store.new.pages).reads ≤ (P.view store.old.pages).reads + most_reads gaz (asked query.now)) }
     ensures root { store.new.root ≡ store.old.root }
     ensures keeps { P.keeps store.old.pages store.new.pages }
 {

@@ -1,10 +1,11 @@
 //! A walk over the keys of a range, by which rows are sought.
-ghost use Rattle.std.specs.Prelude.{◌≡◌, ◌≢◌, ◌≤◌, length, IfOk, IfErr, OnOk};
+ghost use Rattle.std.specs.Prelude.{◌≡◌, ◌≤◌, ◌+◌, ◌*◌, length, IfOk, IfErr, OnOk};
 ghost use Rattle.gaz_pick.specs.Asked.{absent, asked};
 ghost use Rattle.gaz_plan.specs.Wanted.{wanted_of};
 ghost use Rattle.gaz_leaf.specs.Node.{key_of};
 ghost use Rattle.gaz_scan.specs.Ranges.{between};
 ghost use Rattle.gaz_scan.specs.Scan.{tree_of};
+ghost use Rattle.gaz_keys.specs.Keys.{IsKey};
 ghost use Rattle.gaz_keys.specs.Parts.{four_at, tag_of};
 ghost use Rattle.gaz_rows.specs.Store.{IsUndamaged, TakesNoMemory};
 ghost use Rattle.gaz_kin.specs.Over.{OverStore};
@@ -12,7 +13,7 @@ ghost use Rattle.gaz_plan.specs.Seen.{SeesMore};
 ghost use Rattle.gaz_plan.specs.Ways.{number_at, tag_by, stands_for, is_among};
 ghost use Rattle.gaz_plan.specs.Searched.{HasSearched, OverKey, OverPairs, OverTagged, SeesNext};
 
-use crate::offer::{offer_at, offer_named, offer_row};
+use crate::offer::{offer_at, offer_row};
 use crate::wanted::Wanted;
 use gaz_page::Pages;
 use gaz_pick::{Best, Query};
@@ -26,17 +27,10 @@ pub(crate) enum Way {
     Row,
     /// Those of rows by where they lie.
     Lying,
-    /// Those of names, a row's own and alternate ones.
-    Name,
 }
 
-/// Where a key of a name says whose it is, and what it says of an alternate name.
-const SOURCE: usize = 23;
-
-const ALTERNATE: u8 = 2;
-
 /// More keys than a tree has.
-const MOST_KEYS: u32 = 1 << 30;
+pub(crate) const MOST_KEYS: u32 = 1 << 30;
 
 /// A number of four bytes.
 fn four_at(key: &[u8; 32], at: usize) -> u32
@@ -47,39 +41,11 @@ fn four_at(key: &[u8; 32], at: usize) -> u32
 }
 
 /// The id in a key, which stands there.
-fn number_at(key: &[u8; 32], at: usize) -> u32
+pub(crate) fn number_at(key: &[u8; 32], at: usize) -> u32
     requires { at ≤ 28 }
     ensures { result ≡ number_at at (key_of key.now) }
 {
     four_at(key, at)
-}
-
-/// Offers the row for whose name a key stands, if it has all that is asked.
-fn offer_name<P: Pages>(
-    store: &mut RowStore<P>,
-    key: &[u8; 32],
-    query: &Query<'_>,
-    wanted: &Wanted,
-    best: &mut Best,
-    buf: &mut [u8],
-) -> Result<(), AskFault>
-    requires room { 65535 ≤ length buf.old }
-    requires wanted { wanted.now.test ≡ wanted_of (asked query.now).name }
-    requires named { (asked query.now).name ≢ absent }
-    ensures keep { best.new.keep ≡ best.old.keep }
-    ensures more { OnOk result (OverStore (P.view store.old.pages) store.old.root
-        (λ gaz. SeesMore gaz (asked query.now) best.old.keep (stands_for gaz (asked query.now) Way.Name (key_of key.now)) best.old.pairs best.new.pairs)) }
-    ensures damaged { IfErr result (λ fault. OverStore (P.view store.old.pages) store.old.root (λ gaz. IsUndamaged fault)) }
-    ensures size { length buf.new ≡ length buf.old }
-    ensures asked { HasSearched (P.view store.old.pages) (P.view store.new.pages) result }
-    ensures root { store.new.root ≡ store.old.root }
-    ensures keeps { P.keeps store.old.pages store.new.pages }
-{
-    if key[SOURCE] == ALTERNATE {
-        offer_named(store, number_at(key, 28), query, wanted, best, buf)
-    } else {
-        offer_row(store, number_at(key, 24), query, wanted, best, buf)
-    }
 }
 
 /// Offers the rows for which a key stands, if they have all that is asked.
@@ -94,14 +60,14 @@ fn offer_for<P: Pages>(
 ) -> Result<(), AskFault>
     requires room { 65535 ≤ length buf.old }
     requires wanted { wanted.now.test ≡ wanted_of (asked query.now).name }
-    requires named { way ≡ Way.Name → (asked query.now).name ≢ absent }
     ensures keep { best.new.keep ≡ best.old.keep }
     ensures more { OnOk result (OverKey (P.view store.old.pages) store.old.root (tag_by way) (key_of found.now.0) found.now.1
-        (λ gaz. SeesMore gaz (asked query.now) best.old.keep (stands_for gaz (asked query.now) way (key_of found.now.0)) best.old.pairs best.new.pairs)) }
+        (λ gaz. SeesMore gaz (asked query.now) best.old.keep (stands_for (asked query.now) way (key_of found.now.0)) best.old.pairs best.new.pairs)) }
     ensures damaged { IfErr result (λ fault. OverKey (P.view store.old.pages) store.old.root (tag_by way) (key_of found.now.0) found.now.1 (λ gaz. IsUndamaged fault)) }
     ensures absent { (asked query.now).name ≡ absent → IfErr result TakesNoMemory }
     ensures size { length buf.new ≡ length buf.old }
     ensures asked { HasSearched (P.view store.old.pages) (P.view store.new.pages) result }
+    ensures reads { (P.view store.new.pages).reads ≤ (P.view store.old.pages).reads + (store.old.root.height + 17) }
     ensures root { store.new.root ≡ store.old.root }
     ensures keeps { P.keeps store.old.pages store.new.pages }
 {
@@ -109,7 +75,6 @@ fn offer_for<P: Pages>(
     match way {
         Way::Row => offer_at(store, *place, query, wanted, best, buf),
         Way::Lying => offer_row(store, number_at(key, 11), query, wanted, best, buf),
-        Way::Name => offer_name(store, key, query, wanted, best, buf),
     }
 }
 
@@ -125,7 +90,6 @@ fn offer_next<P: Pages>(
 ) -> Result<bool, AskFault>
     requires room { 65535 ≤ length buf.old }
     requires wanted { wanted.now.test ≡ wanted_of (asked query.now).name }
-    requires named { way ≡ Way.Name → (asked query.now).name ≢ absent }
     ensures keep { best.new.keep ≡ best.old.keep }
     ensures more { IfOk result (λ more. OverTagged (P.view store.old.pages) store.old.root scan.old (tag_by way)
         (λ gaz left. SeesNext gaz (asked query.now) way best.old.keep (P.view store.new.pages).page scan.new left best.old.pairs best.new.pairs more)) }
@@ -134,6 +98,7 @@ fn offer_next<P: Pages>(
     ensures tree { tree_of scan.new ≡ tree_of scan.old }
     ensures size { length buf.new ≡ length buf.old }
     ensures asked { HasSearched (P.view store.old.pages) (P.view store.new.pages) result }
+    ensures reads { OverTagged (P.view store.old.pages) store.old.root scan.old (tag_by way) (λ gaz left. (P.view store.new.pages).reads ≤ (P.view store.old.pages).reads + 64) }
     ensures root { store.new.root ≡ store.old.root }
     ensures keeps { P.keeps store.old.pages store.new.pages }
 {
@@ -161,14 +126,14 @@ fn offer_scan<P: Pages>(
 ) -> Result<(), AskFault>
     requires room { 65535 ≤ length buf.old }
     requires wanted { wanted.now.test ≡ wanted_of (asked query.now).name }
-    requires named { way ≡ Way.Name → (asked query.now).name ≢ absent }
     ensures keep { best.new.keep ≡ best.old.keep }
     ensures more { OnOk result (OverTagged (P.view store.old.pages) store.old.root scan.old (tag_by way)
-        (λ gaz left. SeesMore gaz (asked query.now) best.old.keep (is_among gaz (asked query.now) way left) best.old.pairs best.new.pairs)) }
+        (λ gaz left. SeesMore gaz (asked query.now) best.old.keep (is_among (asked query.now) way left) best.old.pairs best.new.pairs)) }
     ensures damaged { IfErr result (λ fault. OverTagged (P.view store.old.pages) store.old.root scan.old (tag_by way) (λ gaz left. IsUndamaged fault)) }
     ensures absent { (asked query.now).name ≡ absent → IfErr result TakesNoMemory }
     ensures size { length buf.new ≡ length buf.old }
     ensures asked { HasSearched (P.view store.old.pages) (P.view store.new.pages) result }
+    ensures reads { OverTagged (P.view store.old.pages) store.old.root scan.old (tag_by way) (λ gaz left. (P.view store.new.pages).reads ≤ (P.view store.old.pages).reads + 64 * (length left + 1)) }
     ensures root { store.new.root ≡ store.old.root }
     ensures keeps { P.keeps store.old.pages store.new.pages }
 {
@@ -195,16 +160,19 @@ pub(crate) fn offer_range<P: Pages>(
 ) -> Result<(), AskFault>
     requires room { 65535 ≤ length buf.old }
     requires wanted { wanted.now.test ≡ wanted_of (asked query.now).name }
-    requires named { way ≡ Way.Name → (asked query.now).name ≢ absent }
     requires low { tag_of low.now ≡ tag_by way }
     requires high { tag_of high.now ≡ tag_by way }
+    ensures low { IsKey low.now }
+    ensures high { IsKey high.now }
     ensures keep { best.new.keep ≡ best.old.keep }
     ensures more { OnOk result (OverPairs (P.view store.old.pages) store.old.root
-        (λ gaz pairs. SeesMore gaz (asked query.now) best.old.keep (is_among gaz (asked query.now) way (between (key_of low.now) (key_of high.now) pairs)) best.old.pairs best.new.pairs)) }
+        (λ gaz pairs. SeesMore gaz (asked query.now) best.old.keep (is_among (asked query.now) way (between (key_of low.now) (key_of high.now) pairs)) best.old.pairs best.new.pairs)) }
     ensures damaged { IfErr result (λ fault. OverStore (P.view store.old.pages) store.old.root (λ gaz. IsUndamaged fault)) }
     ensures absent { (asked query.now).name ≡ absent → IfErr result TakesNoMemory }
     ensures size { length buf.new ≡ length buf.old }
     ensures asked { HasSearched (P.view store.old.pages) (P.view store.new.pages) result }
+    ensures reads { OverPairs (P.view store.old.pages) store.old.root
+        (λ gaz pairs. (P.view store.new.pages).reads ≤ (P.view store.old.pages).reads + 64 * (length (between (key_of low.now) (key_of high.now) pairs) + 1)) }
     ensures root { store.new.root ≡ store.old.root }
     ensures keeps { P.keeps store.old.pages store.new.pages }
 {

@@ -19,13 +19,13 @@ cut_in_one piece old new appends told = let p = appends told in record {
 }
 
 -- a front of the first piece is one of both
-front_of_first : (first second before text : List ℕ) → HasFrontOf first before text → HasFrontOf (first ++ second) before text
+pub front_of_first : (first second before text : List ℕ) → HasFrontOf first before text → HasFrontOf (first ++ second) before text
 front_of_first first second before text front =
     let sum = length-append first second in
     (front.0, omega (arith, front.1, sum), front.2 ∙ ap (λ xs. before ++ xs) (sym (take-append-le front.0 first second front.1)))
 
 -- the first piece with a front of the second is one of both
-front_of_second : (first second before mid text : List ℕ) → mid ≡ before ++ first → HasFrontOf second mid text → HasFrontOf (first ++ second) before text
+pub front_of_second : (first second before mid text : List ℕ) → mid ≡ before ++ first → HasFrontOf second mid text → HasFrontOf (first ++ second) before text
 front_of_second first second before mid text whole front =
     let sum = length-append first second in (
       length first + front.0,

@@ -10,7 +10,7 @@ use Rattle.std.proofs.Transfers.{drop-appended}
 use Rattle.gaz_outside.specs.Outside.{ShelfView, StationView, HasRisen, RisesOnce, printed_of}
 use Rattle.gaz_outside.specs.Station.{LeavesOnly}
 use Rattle.gaz_outside.proofs.Runs.{goes_far, leaves_weaker}
-use Rattle.gaz_open.specs.Holds.{AllHold}
+use Rattle.gaz_rows.specs.Holds.{AllHold}
 use Rattle.gaz_open.specs.Opens.{IsOpening, NothingToRedo}
 use Rattle.gaz_open.proofs.Opened.{same_nothing, found_still}
 use Rattle.gaz_reply.proofs.Pieces.{append_none}
@@ -178,19 +178,17 @@ module _ (first : State) (bytes bytes_now : Option (List ℕ)) (shelf shelf_now 
         }
 
 -- the statuses of a run, and those of an opening that failed
-pub with_unopened : (status : ℕ) → (status ≡ 0) ⊎ (status ≡ 3) ⊎ (status ≡ 4) ⊎ (status ≡ 7) → (status ≡ 0) ⊎ (status ≡ 3) ⊎ (status ≡ 4) ⊎ (status ≡ 5) ⊎ (status ≡ 6) ⊎ (status ≡ 7)
+pub with_unopened : (status : ℕ) → (status ≡ 0) ⊎ (status ≡ 3) ⊎ (status ≡ 4) ⊎ (status ≡ 6) ⊎ (status ≡ 7) → (status ≡ 0) ⊎ (status ≡ 3) ⊎ (status ≡ 4) ⊎ (status ≡ 5) ⊎ (status ≡ 6) ⊎ (status ≡ 7)
 with_unopened status (inl is) = inl is
 with_unopened status (inr (inl is)) = inr (inl is)
 with_unopened status (inr (inr (inl is))) = inr (inr (inl is))
-with_unopened status (inr (inr (inr is))) = inr (inr (inr (inr (inr is))))
+with_unopened status (inr (inr (inr (inl is)))) = inr (inr (inr (inr (inl is))))
+with_unopened status (inr (inr (inr (inr is)))) = inr (inr (inr (inr (inr is))))
 
--- the run ended with none of these
-pub opened_status : {A : Type 0} (status : ℕ) → (status ≡ 0) ⊎ (status ≡ 3) ⊎ (status ≡ 4) ⊎ (status ≡ 7) → (status ≡ 5) ⊎ (status ≡ 6) → A
-opened_status status (inl is) (inl five) = absurd (omega (arith, is, five))
-opened_status status (inl is) (inr six) = absurd (omega (arith, is, six))
-opened_status status (inr (inl is)) (inl five) = absurd (omega (arith, is, five))
-opened_status status (inr (inl is)) (inr six) = absurd (omega (arith, is, six))
-opened_status status (inr (inr (inl is))) (inl five) = absurd (omega (arith, is, five))
-opened_status status (inr (inr (inl is))) (inr six) = absurd (omega (arith, is, six))
-opened_status status (inr (inr (inr is))) (inl five) = absurd (omega (arith, is, five))
-opened_status status (inr (inr (inr is))) (inr six) = absurd (omega (arith, is, six))
+-- the run ended, and not with 5
+pub opened_status : {A : Type 0} (status : ℕ) → (status ≡ 0) ⊎ (status ≡ 3) ⊎ (status ≡ 4) ⊎ (status ≡ 6) ⊎ (status ≡ 7) → status ≡ 5 → A
+opened_status status (inl is) five = absurd (omega (arith, is, five))
+opened_status status (inr (inl is)) five = absurd (omega (arith, is, five))
+opened_status status (inr (inr (inl is))) five = absurd (omega (arith, is, five))
+opened_status status (inr (inr (inr (inl is)))) five = absurd (omega (arith, is, five))
+opened_status status (inr (inr (inr (inr is)))) five = absurd (omega (arith, is, five))

@@ -6,7 +6,7 @@ use Rattle.std.proofs.lemmas.Bool.{cases_eq}
 use Rattle.std.specs.Prelude.{IfSome}
 use Rattle.gaz_outside.specs.Outside.{ShelfView, StationView, IsPrefix}
 use Rattle.gaz_num.specs.Pieces.{lines_within, is_too_long}
-use Rattle.gaz_open.specs.Holds.{AllHold}
+use Rattle.gaz_rows.specs.Holds.{AllHold}
 use Rattle.gaz_reply.specs.Reply.{reply_text}
 use Rattle.gaz_reply.proofs.Cuts.{printed_whole}
 use Rattle.gaz_turns.specs.Turns.{State, Turn, replies, answer_at, state_after}

@@ -1,15 +1,17 @@
 -- A run that wants an empty mirror.
 use Rattle.std.proofs.Common.{◌≡◌, ◌≢◌, ◌⊎◌, inl, inr, ◌^◌, ◌<◌, ◌≤◌, ◌&&◌, ◌∙◌, ℕ, Bool, true, false, List, [], ◌++◌, take, IsTrue, append-nil, arith, refl, sym, ap, subst}
-use Rattle.std.specs.Prelude.{IsSome, IsNone, is_some, Some, None, Option}
+use Rattle.std.specs.Prelude.{IsSome, IsNone, is_some, Some, None, Option, option_map}
 use Rattle.gaz_outside.specs.declared.station.Area.{Area}
 use Rattle.gaz_outside.specs.Outside.{SourceView, ShelfView, StationView, RisesOnce, printed_of}
 use Rattle.gaz_outside.specs.Station.{Outcome, Leaves, LeavesFront, Appends}
 use Rattle.gaz_outside.proofs.Runs.{goes_on, leaves_weaker}
 use Rattle.gaz_plain.specs.Gazetteer.{Gazetteer}
-use Rattle.gaz_open.specs.Content.{Mirrors}
-use Rattle.gaz_open.specs.Holds.{AllHold, IsFound}
+use Rattle.gaz_rows.specs.Content.{Mirrors}
+use Rattle.gaz_rows.specs.Holds.{AllHold, IsFound}
 use Rattle.gaz_open.specs.Opens.{IsOpening}
-use Rattle.gaz_open.proofs.Mirrored.{one_mirror}
+use Rattle.gaz_page.specs.declared.tree_root.Root.{Root}
+use Rattle.gaz_pages.specs.Fits.{Fits}
+use Rattle.gaz_install.proofs.Named.{dated_by}
 use Rattle.gaz_open.proofs.Opened.{found_still}
 use Rattle.gaz_turns.proofs.Told.{mirrors_now, same_printed}
 use Rattle.gaz_serve.specs.Serve.{Ends, HasPrinted}
@@ -29,27 +31,27 @@ module _ {S F T : Type 0} (source : S → SourceView) (shelf : F → ShelfView) 
         λ only told gaz mirrors. inr (record { why = why; source = refl; shelf = refl; printed = same_printed (station old) (station new) opening.counts.told opening.printed }),
       ))
 
-none_of : (date : Option ℕ) (only_empty : Bool) → (only_empty && is_some date) ≡ false → IsTrue only_empty → IsNone date
+none_of : (root : Option Root) (only_empty : Bool) → (only_empty && is_some root) ≡ false → IsTrue only_empty → IsNone (option_map (λ (r : Root). r.day) root)
 none_of None only_empty is only = refl
-none_of (Some day) true is only = absurd (cc)
-none_of (Some day) false is only = absurd (cc)
+none_of (Some root) true is only = absurd (cc)
+none_of (Some root) false is only = absurd (cc)
 
-some_of : (date : Option ℕ) (only_empty : Bool) → (only_empty && is_some date) ≡ true → IsSome date × IsTrue only_empty
+some_of : (root : Option Root) (only_empty : Bool) → (only_empty && is_some root) ≡ true → IsSome (option_map (λ (r : Root). r.day) root) × IsTrue only_empty
 some_of None true is = absurd (cc)
 some_of None false is = absurd (cc)
-some_of (Some day) true is = (refl, refl)
-some_of (Some day) false is = absurd (cc)
+some_of (Some root) true is = (refl, refl)
+some_of (Some root) false is = absurd (cc)
 
 -- a mirror that isn't in the way is empty
-pub is_fresh : (only_empty : Bool) (old mid : StationView) (lines : Gazetteer) → mid.is_told ≡ old.is_told → (IsTrue mid.is_told → Mirrors mid.bytes lines)
-    → (IsTrue old.is_told → (gaz : Gazetteer) → Mirrors old.bytes gaz → Mirrors mid.bytes gaz) → (only_empty && is_some lines.date) ≡ false
+pub is_fresh : (only_empty : Bool) (old mid : StationView) (root : Option Root) → mid.is_told ≡ old.is_told → (IsTrue mid.is_told → Fits root mid)
+    → (IsTrue old.is_told → (gaz : Gazetteer) → Mirrors old.bytes gaz → Mirrors mid.bytes gaz) → (only_empty && is_some root) ≡ false
     → IsTrue only_empty → IsTrue old.is_told → (gaz : Gazetteer) → Mirrors old.bytes gaz → IsNone gaz.date
-is_fresh only_empty old mid lines same opened holds test only told gaz mirrors =
-    subst (λ (g : Gazetteer). IsNone g.date) (one_mirror mid.bytes lines gaz (opened (subst (λ (b : Bool). IsTrue b) (sym same) told)) (holds told gaz mirrors)) (none_of lines.date only_empty test only)
+is_fresh only_empty old mid root same fits holds test only told gaz mirrors =
+    subst (λ (date : Option ℕ). IsNone date) (sym (dated_by mid root gaz (fits (subst (λ (b : Bool). IsTrue b) (sym same) told)) (holds told gaz mirrors))) (none_of root only_empty test only)
 
-module _ (only_empty : Bool) (old mid new : StationView) (lines : Gazetteer) (status : ℕ)
+module _ (only_empty : Bool) (old mid new : StationView) (root : Option Root) (status : ℕ)
     (opening : IsOpening old mid)
-    (opened : IsTrue mid.is_told → Mirrors mid.bytes lines)
+    (fits : IsTrue mid.is_told → Fits root mid)
     (holds : IsTrue old.is_told → (gaz : Gazetteer) → Mirrors old.bytes gaz → AllHold mid gaz)
     (stay_old : IsTrue old.is_told → (a : Area) → old.may_leave a (old.bytes a))
     (stay_mid : IsTrue mid.is_told → (a : Area) → mid.may_leave a (mid.bytes a))
@@ -78,11 +80,11 @@ module _ (only_empty : Bool) (old mid new : StationView) (lines : Gazetteer) (st
     areas = all (record { areas = c.areas; text = mid.printed }) (record { areas = λ a. ((appends (here told)).areas a).outcomes (c.areas a) (front.areas a); text = refl });
   }
 
-  pub refused : (only_empty && is_some lines.date) ≡ true → IsTrue only_empty × TrialRefused old new status
-  refused test = let some = some_of lines.date only_empty test in (
+  pub refused : (only_empty && is_some root) ≡ true → IsTrue only_empty × TrialRefused old new status
+  refused test = let some = some_of root only_empty test in (
     some.1,
     record {
-      loaded = λ told gaz mirrors. subst (λ (g : Gazetteer). IsSome g.date) (one_mirror mid.bytes lines gaz (opened (here told)) (mirrors_now mid gaz (stay_mid (here told)) (holds told gaz mirrors))) some.0;
+      loaded = λ told gaz mirrors. subst (λ (date : Option ℕ). IsSome date) (sym (dated_by mid root gaz (fits (here told)) (mirrors_now mid gaz (stay_mid (here told)) (holds told gaz mirrors)))) some.0;
       ends = subst (λ (o : Option (List ℕ)). HasPrinted o (printed_of new) (Ends (record { status = 1; text = trial_refusal }) status)) (same_printed old mid opening.counts.told opening.printed) ends;
       stops = λ told gaz all.
           goes_on old mid new (IsRefusedStop gaz old) (LeavesFront trial_refusal mid new)

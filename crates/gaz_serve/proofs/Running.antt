@@ -7,26 +7,25 @@ use Rattle.std.proofs.lemmas.Grind.{common_steps}
 use Rattle.std.proofs.lemmas.List.{append-nil}
 use Rattle.gaz_outside.specs.declared.station.Area.{Area}
 use Rattle.gaz_outside.specs.Outside.{ShelfView, StationView, IsPrefix, Prints, printed_of}
-use Rattle.gaz_outside.specs.Station.{Outcome, Leaves, AreasStay}
-use Rattle.gaz_outside.proofs.Runs.{areas_stay_same, areas_stay_on}
+use Rattle.gaz_outside.specs.Station.{Outcome, Leaves}
 use Rattle.gaz_num.specs.Pieces.{lines_within, is_too_long}
 use Rattle.gaz_lines.specs.Lines.{IsLine, Rest, onto}
 use Rattle.gaz_lines.proofs.Pieces.{are_more, lines_are_lines}
 use Rattle.gaz_lines.proofs.Rests.{rest_with}
 use Rattle.gaz_lines.proofs.Told.{Told, told_line, told_too_long, told_end}
 use Rattle.gaz_plain.specs.Load.{Files}
-use Rattle.gaz_open.specs.Content.{Mirrors}
+use Rattle.gaz_rows.specs.Content.{Mirrors}
 use Rattle.gaz_reply.specs.Reply.{reply_text, refused, is_change}
-use Rattle.gaz_reply.specs.Tells.{MayBeCut}
 use Rattle.gaz_reply.proofs.Pieces.{append_none, append_two}
 use Rattle.gaz_reply.proofs.Cuts.{printed_whole}
 use Rattle.gaz_num.specs.Refusal.{request}
-use Rattle.gaz_open.specs.Holds.{AllHold}
+use Rattle.gaz_rows.specs.Holds.{AllHold}
 use Rattle.gaz_words.specs.Grammar.{request_in}
 use Rattle.gaz_words.specs.declared.request.BadRequest.TheVariants.{Length}
 use Rattle.gaz_turns.specs.Turns.{answer_to_read, opens, State, Turn, Verdict, plain, memory, shelf, answer_at, HaveFiles, IsLegal, state_after, replies, has_change, is_shelf, shelf_refusals, blamed_by, blamed_last}
 use Rattle.gaz_turns.specs.Head.{Keeps}
-use Rattle.gaz_turns.specs.Steps.{IsGiven}
+use Rattle.gaz_turns.specs.Steps.{AreasKept, IsCutIn, IsGiven}
+use Rattle.gaz_turns.proofs.Kept.{kept_same, kept_on}
 use Rattle.gaz_turns.proofs.Counted.{or_left, or_right}
 use Rattle.gaz_turns.proofs.Tallies.{legal_more, replies_more, state_more, asked_more, change_more, blamed_more}
 use Rattle.gaz_turns.proofs.Filed.{follow_more, each_has}
@@ -54,7 +53,7 @@ pub record UnderWay (first : State) (bytes : Option (List ℕ)) (now : Option Re
   pub causes : RisesBy (shelf_refusals turns) shelf.faults shelf_now.faults
   pub last_cause : shelf_now.last_fault ≡ blamed_last shelf.last_fault turns
   pub text_is : printed_of station ≡ append_known (printed_of entry) (replies first turns)
-  pub unwritten : has_change first turns ≡ false → AreasStay entry station
+  pub unwritten : has_change first turns ≡ false → AreasKept entry station
   pub keeps : IsTrue entry.is_told → AllHold entry first.gaz → IsUnderWay first entry station (state_after first turns) turns
 
 refused_one : (line : List ℕ) (verdict : Verdict) (files : Files) → shelf_refusals (record { line = line; verdict = verdict; files = files } ∷ []) ≡ cond (is_shelf verdict) 1 0
@@ -93,7 +92,7 @@ but_last xs ys x y is = sym (all_but xs x) ∙ ap front is ∙ all_but ys y
     all_but (u ∷ w ∷ ts) t = ap (λ (l : List Turn). u ∷ l) (all_but (w ∷ ts) t)
 
 -- where the areas stay nothing is written
-pub unwritten_by : (old new : StationView) → IsTrue old.is_told → AreasStay old new → IsUnwritten old new
+pub unwritten_by : (old new : StationView) → IsTrue old.is_told → AreasKept old new → IsUnwritten old new
 unwritten_by old new is_told stay = record { bytes = λ a. (stay.each is_told a).bytes; writes = stay.unwritten }
 
 -- the lines that were asked and those that weren't, where they are told
@@ -181,10 +180,10 @@ module _ (first : State) (bytes : Option (List ℕ)) (shelf shelf_now : ShelfVie
       turn_by verdict = record { line = line; verdict = verdict; files = after.files }
 
       -- no area is written where the turns so far, and this one, make no change
-      unwritten_on : (verdict : Verdict) → (is_change (answer_at state (turn_by verdict)).reply ≡ false → AreasStay station station_now) → has_change first (way.turns ++ turn_by verdict ∷ []) ≡ false → AreasStay entry station_now
+      unwritten_on : (verdict : Verdict) → (is_change (answer_at state (turn_by verdict)).reply ≡ false → AreasKept station station_now) → has_change first (way.turns ++ turn_by verdict ∷ []) ≡ false → AreasKept entry station_now
       unwritten_on verdict stays none =
           let split = sym (change_more first way.turns (turn_by verdict)) ∙ none in
-          areas_stay_on entry station station_now still (way.unwritten (or_left _ _ split)) (stays (or_right _ _ split))
+          kept_on entry station station_now still (way.unwritten (or_left _ _ split)) (stays (or_right _ _ split))
 
       -- one turn more: its files, its place among legal turns, and its causes
       files_more : {A E : Type 0} (result : Result A E) (step : OneStep line state shelf_now after station station_now result) → HaveFiles shelf (way.turns ++ turn_by step.verdict ∷ []) after
@@ -283,7 +282,7 @@ way_first first bytes now answered view entry fits none only mirrors told = reco
   causes = omega (arith, fits);
   last_cause = refl;
   text_is = append_none (printed_of entry);
-  unwritten = λ none. areas_stay_same entry;
+  unwritten = λ none. kept_same entry;
   keeps = λ is_told holds. starts first entry (λ c left. only c is_told left) holds;
 }
 
@@ -293,7 +292,7 @@ unfolding request_in
 long_request line long = let more : nat_lt 4096 (length line) ≡ true = grind (arith, common_steps) in rw more refl
 
 pub long_step : {E : Type 0} (line : List ℕ) (state : State) (view : ShelfView) (station station_now : StationView) (result : Result (Unit {0}) E) → ((c : Outcome) → IsTrue station.is_told → station.left_since station.moment c → Leaves station c)
-    → 4096 < length line → Prints (reply_text (refused (request (codes "length")))) station station_now result → MayBeCut (reply_text (refused (request (codes "length")))) station station_now → AreasStay station station_now → OneStep line state view view station station_now result
+    → 4096 < length line → Prints (reply_text (refused (request (codes "length")))) station station_now result → IsCutIn (reply_text (refused (request (codes "length")))) station station_now → AreasKept station station_now → OneStep line state view view station station_now result
 long_step line state view station station_now result only long printed cut stay = record {
   verdict = plain;
   may = tt;

@@ -1,5 +1,5 @@
 -- What replies tell of a shelf, one behind the other. This holds over any shelf.
-use Rattle.std.proofs.Common.{◌≡◌, ◌≢◌, ℕ, ◌+◌, ◌^◌, ◌<◌, cond, List, [], ◌∷◌, ◌++◌, append_assoc, refl, sym, ◌∙◌, ap, subst, arith, Option, Some, None}
+use Rattle.std.proofs.Common.{◌≡◌, ◌≢◌, ⊎_elim, ℕ, ◌+◌, ◌^◌, ◌<◌, cond, List, [], ◌∷◌, ◌++◌, append_assoc, refl, sym, ◌∙◌, ap, subst, arith, Option, Some, None}
 use Rattle.std.specs.Prelude.{count_by, is_some, unwrap_or, option_map, Ok, Err}
 use Rattle.std.specs.Io.KnownBytes.{append_known}
 use Rattle.std.proofs.lemmas.Grind.{common_steps}
@@ -9,7 +9,7 @@ use Rattle.gaz_num.specs.Words.{file_text}
 use Rattle.gaz_reply.specs.Reply.{Reply, reply_text}
 use Rattle.gaz_reply.proofs.Pieces.{append_none, append_two}
 use Rattle.gaz_serve.specs.Step.{FailedIf, TellsShelf, shelf_file}
-use Rattle.gaz_serve.specs.Ran.{RisesBy, TellShelf, tells_shelf, text_of_all, shelf_last}
+use Rattle.gaz_serve.specs.Ran.{EndsWithin, RisesBy, TellShelf, tells_shelf, text_of_all, shelf_last}
 
 -- These replies were printed, and say of the shelf what is so.
 pub record Telling (shelf shelf_now : ShelfView) (entry station : StationView) : Type 0 where
@@ -62,27 +62,27 @@ module _ (shelf mid : ShelfView) (entry station : StationView) (before : Telling
     last_cause = last_cause_more now tells.reply tells.failed;
   }
 
-  pub tells_cut : {E : Type 0} (now : ShelfView) (station_now : StationView) (failed : E) (status : ℕ) → status ≡ 3 → TellsShelf {A = Unit {0}} {E = E} mid now station station_now (Err failed) → TellShelf shelf now entry station_now status
-  tells_cut now station_now failed status three tells = record {
+  pub tells_cut : {E : Type 0} (now : ShelfView) (station_now : StationView) (failed : E) (status : ℕ) → EndsWithin status → TellsShelf {A = Unit {0}} {E = E} mid now station station_now (Err failed) → TellShelf shelf now entry station_now status
+  tells_cut now station_now failed status ends tells = record {
     told = before.told ++ tells.reply ∷ [];
     text = text_of_all before.told ++ tells.printed.0;
     text_is =
         tells.printed.2
         ∙ ap (λ known. append_known known tells.printed.0) before.text_is
         ∙ append_two (printed_of entry) (text_of_all before.told) tells.printed.0;
-    whole = λ other. absurd (other three);
+    whole = λ well sound. ⊎_elim (λ is. absurd (well is)) (λ is. absurd (sound is)) ends;
     cut = λ is. (tells.printed.1.0, text_more before.told tells.reply ∙ ap (λ text. text_of_all before.told ++ text) tells.printed.1.1 ∙ sym (append_assoc (text_of_all before.told) tells.printed.0 tells.printed.1.0));
     causes = causes_more now tells.reply tells.failed;
     last_cause = last_cause_more now tells.reply tells.failed;
   }
 
-  pub tells_all : (status : ℕ) → status ≢ 3 → TellShelf shelf mid entry station status
-  tells_all status well = record {
+  pub tells_all : (status : ℕ) → status ≢ 3 → status ≢ 6 → TellShelf shelf mid entry station status
+  tells_all status well sound = record {
     told = before.told;
     text = text_of_all before.told;
     text_is = before.text_is;
-    whole = λ other. refl;
-    cut = λ is. absurd (well is);
+    whole = λ other others. refl;
+    cut = λ is. ⊎_elim (λ three. absurd (well three)) (λ six. absurd (sound six)) is;
     causes = before.causes;
     last_cause = before.last_cause;
   }
@@ -104,7 +104,7 @@ tells_unopened shelf entry exit status fits printed = record {
   told = [];
   text = [];
   text_is = printed ∙ append_none (printed_of entry);
-  whole = λ well. refl;
+  whole = λ well sound. refl;
   cut = λ is. ([], refl);
   causes = omega (arith, fits);
   last_cause = refl;

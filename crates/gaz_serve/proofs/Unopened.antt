@@ -6,8 +6,8 @@ use Rattle.gaz_outside.proofs.Runs.{begins, confined_start, leaves_weaker}
 use Rattle.gaz_open.proofs.Opened.{found_still}
 use Rattle.gaz_redo.specs.Slots.{SameBytes}
 use Rattle.gaz_plain.specs.Gazetteer.{Gazetteer}
-use Rattle.gaz_open.specs.Content.{Mirrors}
-use Rattle.gaz_open.specs.Holds.{IsFound}
+use Rattle.gaz_rows.specs.Content.{Mirrors}
+use Rattle.gaz_rows.specs.Holds.{IsFound}
 use Rattle.gaz_open.specs.Opens.{IsOpening}
 use Rattle.gaz_turns.proofs.Told.{same_printed}
 use Rattle.gaz_turns.proofs.Underway.{ends_early}

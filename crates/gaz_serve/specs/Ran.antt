@@ -7,8 +7,8 @@ use Rattle.gaz_outside.specs.Outside.{SourceView, ShelfView, StationView, HasRis
 use Rattle.gaz_outside.specs.Station.{LeavesOnly}
 use Rattle.gaz_plain.specs.Gazetteer.{Gazetteer}
 use Rattle.gaz_plain.specs.Load.{Files}
-use Rattle.gaz_open.specs.Content.{Mirrors}
-use Rattle.gaz_open.specs.Holds.{AllHold}
+use Rattle.gaz_rows.specs.Content.{Mirrors}
+use Rattle.gaz_rows.specs.Holds.{AllHold}
 use Rattle.gaz_open.specs.Opens.{NothingToRedo}
 use Rattle.gaz_turns.specs.Turns.{State, Turn, Verdict, plain, memory, shelf, HaveFiles, HasOnly, IsLegal, replies, has_change, shelf_refusals, blamed_last}
 use Rattle.gaz_turns.specs.Head.{Keeps, IsFoundOrStop, IsExit}
@@ -115,14 +115,18 @@ abbrev pub shelf_last : Option (List ℕ) → List Reply → Option (List ℕ)
 shelf_last before [] = before
 shelf_last before (reply ∷ told) = shelf_last (unwrap_or (option_map (λ file. Some (file_text file)) (shelf_file reply)) before) told
 
--- Replies are printed, the last one cut where the station failed, and they say of the shelf what is so: it failed as often as
+-- The run ends in the middle of a request: the station failed, or a page was damaged.
+abbrev pub EndsWithin : ℕ → Type 0
+EndsWithin status = (status ≡ 3) ⊎ (status ≡ 6)
+
+-- Replies are printed, the last one cut where the run ends within it, and they say of the shelf what is so: it failed as often as
 -- they say, and the last time at the file of the last of these. This holds over any shelf.
 pub record TellShelf (shelf shelf_now : ShelfView) (station station_now : StationView) (status : ℕ) : Type 0 where
   pub told : List Reply
   pub text : List ℕ
   pub text_is : printed_of station_now ≡ append_known (printed_of station) text
-  pub whole : status ≢ 3 → text ≡ text_of_all told
-  pub cut : status ≡ 3 → IsPrefix text (text_of_all told)
+  pub whole : status ≢ 3 → status ≢ 6 → text ≡ text_of_all told
+  pub cut : EndsWithin status → IsPrefix text (text_of_all told)
   pub causes : RisesBy (count_by tells_shelf told) shelf.faults shelf_now.faults
   pub last_cause : shelf_now.last_fault ≡ shelf_last shelf.last_fault told
 
@@ -138,7 +142,7 @@ pub record ServeRan {S F T : Type 0} (source : S → SourceView) (shelf : F → 
   pub failures : TellShelf (shelf old_shelf) (shelf new_shelf) (station old_station) (station new_station) status
   -- With 6 the areas are no mirror.
   pub none : status ≡ 6 → IsTrue (station old_station).is_told → (gaz : Gazetteer) → Mirrors (station old_station).bytes gaz → ⊥
-  pub unopened : (status ≡ 5) ⊎ (status ≡ 6) → IsUnopened old_source new_source old_shelf new_shelf (station old_station) (station new_station) status
+  pub unopened : status ≡ 5 → IsUnopened old_source new_source old_shelf new_shelf (station old_station) (station new_station) status
   -- With 0 nothing is left.
   pub emptied : status ≡ 0 → IfSome (left_of (source new_source)) (λ bytes. bytes ≡ [])
   -- With 7 the source goes on past the limit.

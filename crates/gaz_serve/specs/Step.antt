@@ -1,37 +1,42 @@
 -- What one request does, in the program.
-use Rattle.std.specs.Prelude.{◌≡◌, ◌⊎◌, ⊤, ℕ, List, Option, Some, None, Result, Ok, Err}
-use Rattle.gaz_outside.specs.Outside.{ShelfView, StationView, HasCause, Prints}
-use Rattle.gaz_outside.specs.Station.{AreasStay}
+use Rattle.std.specs.Prelude.{◌≡◌, ⊤, ℕ, List, Option, Some, None, Result, Ok, Err, OnOk}
+use Rattle.gaz_outside.specs.Outside.{ShelfView, StationView, RisesOnce, Prints}
 use Rattle.gaz_num.specs.declared.words.FileName.{FileName}
 use Rattle.gaz_num.specs.Refusal as refusal
 use Rattle.gaz_plain.specs.Gazetteer.{Gazetteer}
 use Rattle.gaz_plain.specs.Load.{Files}
 use Rattle.gaz_reply.specs.declared.reply.Done.{Done}
-use Rattle.gaz_reply.specs.Tells.{MayBeCut}
 use Rattle.gaz_reply.specs.Reply.{Reply, done, rows, refused, reply_text}
-use Rattle.gaz_serve.specs.declared.change.ChangeFault.{ChangeFault}
-use Rattle.gaz_serve.specs.Change.{IsUnblamed, FailedAt, Closes, refusal_by}
+use Rattle.gaz_rows.specs.Content.{Mirrors}
+use Rattle.gaz_change.specs.Change.{IsUnblamed, FailedAt}
+use Rattle.gaz_ask.specs.Asked.{OverMirror}
+use Rattle.gaz_serve.specs.declared.step.EndFault.{EndFault}
+use Rattle.gaz_serve.specs.declared.step.EndFault.TheVariants.{Station, Damaged}
+use Rattle.gaz_serve.specs.Change.{Closes}
 use Rattle.gaz_turns.specs.Turns.{State, Answer, made, same_state, Verdict, plain, memory, shelf, MayBe, MayStarve, IsReached, opens, answer_to, answer_by}
-use Rattle.gaz_turns.specs.Steps.{IsGiven}
+use Rattle.gaz_turns.specs.Steps.{AreasKept, IsCutIn, IsGiven}
 use Rattle.gaz_words.specs.Grammar.{RequestAsked, request_in}
 
--- The station tells as before, and its count of faults says whether the call failed.
-pub record Reports {A E : Type 0} (old new : StationView) (result : Result A E) : Type 0 where
-  pub told : new.is_told ≡ old.is_told
-  pub cause : HasCause old.faults new.faults result
+-- The count of faults rises by one where the station failed, and else stands.
+abbrev pub EndsOnce : {A : Type 0} → ℕ → ℕ → Result A EndFault → Type 0
+EndsOnce before now (Err Station) = RisesOnce before now
+EndsOnce before now other = now ≡ before
 
--- A reply is printed, or a front of it where the station failed. The areas stay, with what a stop may leave of them.
+-- No damage was met.
+abbrev pub IsSound : {A : Type 0} → Result A EndFault → Type 0
+IsSound (Err (Damaged page)) = ⊥
+IsSound other = ⊤
+
+-- The station tells as before, and its count of faults says whether it failed.
+pub record Reports {A : Type 0} (old new : StationView) (result : Result A EndFault) : Type 0 where
+  pub told : new.is_told ≡ old.is_told
+  pub cause : EndsOnce old.faults new.faults result
+
+-- A reply is printed, or a front of it where the run ends. The areas stay, with what a stop may leave of them, and none is written.
 pub record Replies {A E : Type 0} (reply : Reply) (old new : StationView) (result : Result A E) : Type 0 where
   pub printed : Prints (reply_text reply) old new result
-  pub moments : MayBeCut (reply_text reply) old new
-  pub areas : AreasStay old new
-
--- What a change made is stored and told, or memory was wanting to store it; or it is told why the change is refused.
-abbrev pub Finishes : {A E : Type 0} → Done → Result Gazetteer ChangeFault → State → StationView → StationView → Result A E → Type 0
-Finishes change (Ok gaz) state old new result =
-    IsGiven (made change gaz) state old new result
-    ⊎ IsGiven (same_state state (refused refusal.memory)) state old new result
-Finishes change (Err fault) state old new result = IsGiven (same_state state (refused (refusal_by fault))) state old new result
+  pub moments : IsCutIn (reply_text reply) old new
+  pub areas : AreasKept old new
 
 -- The shelf failed once, at the file of the verdict, or didn't fail.
 abbrev pub IsBlamed : Verdict → ShelfView → ShelfView → Type 0
@@ -91,3 +96,16 @@ pub record TellsShelf {A E : Type 0} (shelf shelf_now : ShelfView) (station stat
   pub reply : Reply
   pub printed : Prints (reply_text reply) station station_now result
   pub failed : FailedIf (shelf_file reply) shelf shelf_now
+
+-- A question is answered: a reply that names no file is printed, or a front of it where the run ends there, and nothing is written. Where the
+-- areas mirror a gazetteer the reply is one that it may have, and no damage is met.
+pub record Tells {A : Type 0} (may : Gazetteer → Reply → Type 0) (old new : StationView) (result : Result A EndFault) : Type 0 where
+  pub some : (reply : Reply) × (shelf_file reply ≡ None) × Prints (reply_text reply) old new result
+  pub gives : OverMirror old (λ gaz. (reply : Reply) × may gaz reply × Replies reply old new result)
+  pub areas : AreasKept old new
+  pub sound : OverMirror old (λ gaz. IsSound result)
+
+-- Over a device that mirrors a gazetteer a request meets no damage, and after it the device mirrors one. This holds over any shelf.
+pub record Lasts {A : Type 0} (old new : StationView) (result : Result A EndFault) : Type 0 where
+  pub sound : OverMirror old (λ gaz. IsSound result)
+  pub next : OnOk result (OverMirror old (λ gaz. (now : Gazetteer) × Mirrors new.bytes now))

@@ -1,25 +1,38 @@
--- What is told of rows, and of a search.
-use Rattle.std.specs.Prelude.{◌≡◌, ◌⊎◌, ℕ, ◌+◌, List, [], ◌∷◌, ◌++◌, length, Result}
-use Rattle.gaz_outside.specs.Outside.{StationView}
-use Rattle.gaz_num.specs.Refusal.{memory}
-use Rattle.gaz_pick.specs.Asked.{Asked}
+-- What is told of rows.
+use Rattle.std.specs.Prelude.{◌≡◌, ℕ, ◌+◌, List, [], ◌∷◌, ◌++◌, length, Result}
+use Rattle.gaz_outside.specs.Outside.{StationView, Prints}
 use Rattle.gaz_plain.specs.Gazetteer.{Gazetteer}
-use Rattle.gaz_plain.specs.Search.{search_of}
-use Rattle.gaz_plain.specs.Kin.{rows_with}
-use Rattle.gaz_reply.specs.Reply.{Reply, rows, refused, with_ends, end_line}
-use Rattle.gaz_turns.specs.Turns.{AsksName}
-use Rattle.gaz_serve.specs.Step.{Replies}
+use Rattle.gaz_outside.specs.Station.{AreasStay}
+use Rattle.gaz_reply.specs.Reply.{Reply, reply_text, with_ends, end_line}
+use Rattle.gaz_reply.specs.Tells.{MayBeCut}
+use Rattle.gaz_rows.specs.declared.fault.AskFault.{AskFault}
+use Rattle.gaz_rows.specs.declared.fault.AskFault.TheVariants as ask
+use Rattle.gaz_ask.specs.Asked.{OverMirror}
+use Rattle.gaz_turns.specs.Steps.{AreasKept, IsCutIn}
+use Rattle.gaz_serve.specs.declared.step.EndFault.{EndFault}
+use Rattle.gaz_serve.specs.declared.step.EndFault.TheVariants.{Station, Damaged}
+use Rattle.gaz_serve.specs.Step.{IsSound}
 
--- the rows with these ids, behind so many that were printed before, and the number of all
-abbrev pub rest_text : Gazetteer → List ℕ → ℕ → List ℕ
-rest_text gaz ids before = with_ends (rows_with gaz ids ++ end_line (before + length (rows_with gaz ids)) ∷ [])
+-- how a run ends with a question that came to nothing, but for want of memory, which ends none
+abbrev pub ends_by : AskFault → EndFault
+ends_by ask.Failed = Station
+ends_by (ask.Damaged page) = Damaged page
+ends_by ask.Memory = Station
 
--- The reply tells the answer, or that memory was wanting, which may be only where a name is asked for.
-abbrev pub IsSearchReply : Gazetteer → Asked → Reply → Type 0
-IsSearchReply gaz asked reply = (reply ≡ rows (search_of gaz asked)) ⊎ ((reply ≡ refused memory) × AsksName asked.name)
+-- A reply is printed, or a front of it where the station failed. No area is called.
+pub record IsPrinted {A E : Type 0} (reply : Reply) (old new : StationView) (result : Result A E) : Type 0 where
+  pub printed : Prints (reply_text reply) old new result
+  pub moments : MayBeCut (reply_text reply) old new
+  pub areas : AreasStay old new
 
--- Such a reply is printed, or a front of it where the station failed.
-pub record TellsSearch {A E : Type 0} (gaz : Gazetteer) (asked : Asked) (station station_now : StationView) (result : Result A E) : Type 0 where
-  pub reply : Reply
-  pub is : IsSearchReply gaz asked reply
-  pub replies : Replies reply station station_now result
+-- lines behind so many that were printed before, and the number of all
+abbrev pub rest_text : List (List ℕ) → ℕ → List ℕ
+rest_text lines before = with_ends (lines ++ end_line (before + length lines) ∷ [])
+
+-- Lines are printed behind so many others, with the number of all, or a front of that where the run ends there; nothing is written. Where the
+-- areas mirror a gazetteer these are its lines, and no damage is met.
+pub record TellsRest {A : Type 0} (before : ℕ) (lines_of : Gazetteer → List (List ℕ)) (old new : StationView) (result : Result A EndFault) : Type 0 where
+  pub some : (lines : List (List ℕ)) × Prints (rest_text lines before) old new result
+  pub gives : OverMirror old (λ gaz. Prints (rest_text (lines_of gaz) before) old new result × IsCutIn (rest_text (lines_of gaz) before) old new)
+  pub areas : AreasKept old new
+  pub sound : OverMirror old (λ gaz. IsSound result)

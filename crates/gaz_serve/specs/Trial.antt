@@ -4,8 +4,8 @@ use Rattle.gaz_outside.specs.Outside.{SourceView, ShelfView, StationView, HasRis
 use Rattle.gaz_outside.specs.Station.{Outcome, LeavesOnly}
 use Rattle.gaz_outside.specs.Listed.{file_named}
 use Rattle.gaz_plain.specs.Gazetteer.{Gazetteer}
-use Rattle.gaz_open.specs.Content.{Mirrors}
-use Rattle.gaz_open.specs.Holds.{AllHold}
+use Rattle.gaz_rows.specs.Content.{Mirrors}
+use Rattle.gaz_rows.specs.Holds.{AllHold}
 use Rattle.gaz_turns.specs.Head.{IsFront}
 use Rattle.gaz_make.specs.Files.{made_files, request_text}
 use Rattle.gaz_serve.specs.Serve.{Ends, HasPrinted}

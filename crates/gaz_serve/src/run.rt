@@ -1,14 +1,15 @@
 //! A run of requests, one line of the source after another.
-ghost use Rattle.std.specs.Prelude.{◌≡◌, ◌≢◌, ◌⊎◌, ◌^◌, ◌∷◌, [], IsTrue, IfOk, IfSome, codes, vec_len, true};
-ghost use Rattle.gaz_outside.specs.Outside.{RisesOnce, SameNumbers, NoneOpen, left_of};
+ghost use Rattle.std.specs.Prelude.{◌≡◌, ◌≢◌, ◌⊎◌, ◌^◌, ◌∷◌, [], IsTrue, IfSome, codes, true};
+ghost use Rattle.gaz_outside.specs.Outside.{HasCause, RisesOnce, SameNumbers, NoneOpen, left_of};
 ghost use Rattle.gaz_num.specs.Pieces.{is_too_long};
 ghost use Rattle.gaz_num.specs.Refusal.{request};
 ghost use Rattle.gaz_lines.specs.Cutter.{line_limit_of, file_limit_of, IsFresh};
-ghost use Rattle.gaz_open.specs.Content.{Mirrors};
+ghost use Rattle.gaz_plain.specs.Gazetteer.{Gazetteer};
+ghost use Rattle.gaz_rows.specs.Content.{Mirrors};
 ghost use Rattle.gaz_reply.specs.Reply.{refused};
 ghost use Rattle.gaz_turns.specs.Turns.{State};
 ghost use Rattle.gaz_serve.specs.Session.{IsOpen};
-ghost use Rattle.gaz_serve.specs.Step.{Replies, Reports};
+ghost use Rattle.gaz_serve.specs.Step.{Replies};
 ghost use Rattle.gaz_serve.specs.Ran.{RunAnswers, TellShelf};
 ghost use Rattle.gaz_serve.specs.Serve.{Taken};
 
@@ -20,14 +21,12 @@ use gaz_reply::{Refusal, write_refusal};
 use gaz_words::BadRequest;
 
 /// Answers a request line that is longer than the longest.
-fn refuse_long<T: Station>(station: &mut T) -> Result<(), EndFault>
+fn refuse_long<T: Station>(station: &mut T) -> Result<(), Failed>
     ensures replies { Replies (refused (request (codes "length"))) (T.view station.old) (T.view station.new) result }
-    ensures reports { Reports (T.view station.old) (T.view station.new) result }
+    ensures told { (T.view station.new).is_told ≡ (T.view station.old).is_told }
+    ensures cause { HasCause (T.view station.old).faults (T.view station.new).faults result }
 {
-    match write_refusal(station, &Refusal::Request(BadRequest::Length.word())) {
-        Ok(()) => Ok(()),
-        Err(Failed) => Err(EndFault::Station),
-    }
+    write_refusal(station, &Refusal::Request(BadRequest::Length.word()))
 }
 
 /// Answers the lines of the source, one after another, and answers the status.
@@ -55,17 +54,20 @@ pub(crate) fn run<S: Source, F: Shelf, T: Station>(
     ensures source_kept { result ≢ 4 → (S.view source.new).faults ≡ (S.view source.old).faults }
     ensures past { result ≡ 7 → IfSome (left_of (S.view source.old)) (λ bytes. is_too_long bytes ≡ true) }
     ensures told { (T.view station.new).is_told ≡ (T.view station.old).is_told }
-    ensures others { (result ≡ 0) ⊎ (result ≡ 3) ⊎ (result ≡ 4) ⊎ (result ≡ 7) }
+    ensures damaged { result ≡ 6 → IsTrue (T.view station.old).is_told → (gaz : Gazetteer) → Mirrors (T.view station.old).bytes gaz → ⊥ }
+    ensures others { (result ≡ 0) ⊎ (result ≡ 3) ⊎ (result ≡ 4) ⊎ (result ≡ 6) ⊎ (result ≡ 7) }
 {
     loop {
         match cutter.next_source(source) {
             Ok(Some(line)) => {
-                if let Err(EndFault::Station) = answer(session, shelf, station, line) {
-                    return 3;
+                match answer(session, shelf, station, line) {
+                    Ok(()) => {}
+                    Err(EndFault::Station) => return 3,
+                    Err(EndFault::Damaged(_)) => return 6,
                 }
             }
             Err(LineFault::TooLong(_)) => {
-                if let Err(EndFault::Station) = refuse_long(station) {
+                if let Err(Failed) = refuse_long(station) {
                     return 3;
                 }
             }

@@ -1,5 +1,5 @@
-//! A session: the gazetteer of an open mirror, the side of its text, the buffer by which files are read, and the room for answers.
-ghost use Rattle.std.specs.Prelude.{◌≡◌, ◌≤◌, ◌⊎◌, ◌∷◌, [], Ok, None, ◌&&◌, is_some, IsTrue, IfOk, IfErr, IfSome, IsSome, OnOk, option_to_list};
+//! A session: an open mirror, the buffer by which files are read, and the room for lines and for answers.
+ghost use Rattle.std.specs.Prelude.{◌≡◌, ◌≤◌, ◌⊎◌, ◌∷◌, [], None, Ok, ◌&&◌, is_some, IsTrue, IfOk, IfErr, IfSome, OnOk, option_to_list, option_map};
 ghost use Rattle.gaz_outside.specs.Outside.{files_of};
 ghost use Rattle.gaz_num.specs.Refusal.{memory};
 ghost use Rattle.gaz_num.specs.declared.words.Table.TheVariants.{Rows, Codes};
@@ -7,30 +7,31 @@ ghost use Rattle.gaz_plain.specs.Gazetteer.{Gazetteer, line_with};
 ghost use Rattle.gaz_pick.specs.Asked.{asked};
 ghost use Rattle.gaz_plain.specs.Search.{search_of};
 ghost use Rattle.gaz_plain.specs.Kin.{children_of, hierarchy_of};
-ghost use Rattle.gaz_words.specs.Grammar.{IsLimited};
-ghost use Rattle.gaz_plain.specs.Load.{load, day, load_files, in_sequence};
-ghost use Rattle.gaz_open.specs.Content.{Mirrors};
-ghost use Rattle.gaz_open.specs.Holds.{AllHold};
+ghost use Rattle.gaz_words.specs.Grammar.{IsLimited, asks_load, asks_day};
+ghost use Rattle.gaz_plain.specs.Load.{load_files, in_sequence};
+ghost use Rattle.gaz_rows.specs.Content.{Mirrors};
+ghost use Rattle.gaz_rows.specs.Holds.{AllHold};
 ghost use Rattle.gaz_open.specs.Opens.{FailsOnce, IsNoMirror, IsOpening};
 ghost use Rattle.gaz_open.specs.declared.fault.Place.{Place};
 ghost use Rattle.gaz_reply.specs.Reply.{refused, rows};
-ghost use Rattle.gaz_turns.specs.Turns.{AsksName, day_opens, if_loaded, same_state, made};
-ghost use Rattle.gaz_turns.specs.Steps.{IsGiven};
-ghost use Rattle.gaz_serve.specs.Change.{Blamed, BlamesReached, Closes, Gives};
+ghost use Rattle.gaz_turns.specs.Turns.{State, AsksName, day_opens, if_loaded};
+ghost use Rattle.gaz_serve.specs.Change.{Closes};
 ghost use Rattle.gaz_serve.specs.Session.{IsOpen, state_of};
-ghost use Rattle.gaz_serve.specs.Step.{Finishes, Reports};
+ghost use Rattle.gaz_serve.specs.Step.{Lasts, Meets, Reports, Tells, TellsShelf};
 
-use crate::change::{ChangeFault, follow, loaded, next_gazetteer};
-use crate::tell::{tell_answer, tell_chain, tell_children, tell_found};
+use crate::step::EndFault;
+use crate::tell::{end_of, refuse, tell_change, tell_found, tell_rows};
+use gaz_ask::{chain, children, get_code, get_row, search};
+use gaz_day::apply;
 use gaz_lines::LineCutter;
+use gaz_load::load;
 use gaz_num::Day;
-use gaz_open::{OpenFault, open_plain};
-use gaz_outside::{Failed, Shelf, Station};
-use gaz_page::Side;
+use gaz_open::{OpenFault, open};
+use gaz_outside::{Shelf, Station};
+use gaz_pages::Mirror;
 use gaz_pick::{Best, Query};
-use gaz_plain::PlainGaz;
-use gaz_reply::{Done, Refusal, write_done, write_refusal};
-use gaz_store::{StoreFault, store};
+use gaz_reply::{Done, Refusal};
+use gaz_rows::AskFault;
 use std::alloc::{AllocError, Global};
 use std::marker::Model;
 
@@ -40,34 +41,37 @@ const LINE_LIMIT: u32 = 65_535;
 /// Bytes of the longest file.
 const FILE_LIMIT: u64 = 1 << 40;
 
-/// An open mirror between two requests, the buffer by which files are read, and the room for the answer to a search.
+/// Room for two lines: one that is told, and one that is looked at beside it.
+const ROOM: usize = 131_070;
+
+/// An open mirror between two requests, the buffer by which files are read, the room for lines, and that for the pairs of an answer.
 #[derive(Drop)]
 pub struct Session {
     alloc: Global,
-    gaz: PlainGaz,
-    /// The side of the text on the device, if it has one.
-    side: Option<Side>,
+    mirror: Mirror,
     cutter: LineCutter,
     best: Best,
+    buf: Vec<u8>,
 }
 
 impl Model for Session {
-    ghost use Rattle.std.specs.Prelude.{◌≡◌, ◌^◌};
+    ghost use Rattle.std.specs.Prelude.{◌≡◌, ◌^◌, length};
     ghost use Rattle.gaz_lines.specs.Cutter.{line_limit_of, file_limit_of};
+    ghost use Rattle.gaz_pages.specs.Held.{root_of};
     ghost use Rattle.gaz_serve.specs.Session.{SessionView};
 
     ghost Value = { SessionView };
 
-    ghost view = { λ session. record { lines = session.gaz; side = session.side } };
+    ghost view = { λ session. record { root = root_of session.mirror } };
 
-    ghost invariant = { λ session. (line_limit_of session.cutter ≡ 65535) × (file_limit_of session.cutter ≡ 2 ^ 40) };
+    ghost invariant = { λ session. (line_limit_of session.cutter ≡ 65535) × (file_limit_of session.cutter ≡ 2 ^ 40) × (length session.buf.items ≡ 131070) };
 }
 
 impl Session {
-    /// Opens the mirror: reserves the buffer for files and the room for answers, syncs the areas, recovers from a stop, and reads the text. It prints
-    /// nothing.
+    /// Opens the mirror: reserves the buffer for files and the room for answers, syncs the areas, recovers from a stop, and reads the root
+    /// page. It prints nothing.
     pub fn start<T: Station>(alloc: Global, station: &mut T) -> Result<Session, OpenFault>
-        // The session has open what the areas mirror. Nothing is pending then: all outcomes have what the areas mirrored before.
+        // The device fits the session's mirror. Nothing is pending then: all outcomes have what the areas mirrored before.
         ensures open { IfOk result (λ session. IsOpen session (T.view station.new)) }
         ensures holds { OnOk result (IsTrue (T.view station.old).is_told → (gaz : Gazetteer) → Mirrors (T.view station.old).bytes gaz → AllHold (T.view station.new) gaz) }
 
@@ -86,13 +90,17 @@ impl Session {
             Ok(best) => best,
             Err(AllocError) => return Err(OpenFault::Memory),
         };
-        match open_plain(alloc, station) {
+        let buf = match vec![in alloc; 0; ROOM] {
+            Ok(buf) => buf,
+            Err(AllocError) => return Err(OpenFault::Memory),
+        };
+        match open(alloc, station) {
             Ok(mirror) => Ok(Session {
                 alloc,
-                gaz: mirror.gaz,
-                side: mirror.side,
+                mirror,
                 cutter,
                 best,
+                buf,
             }),
             Err(fault) => Err(fault),
         }
@@ -100,103 +108,104 @@ impl Session {
 
     /// Whether a load was accepted before, where that is asked.
     pub(crate) fn is_in_the_way(&self, only_empty: bool) -> bool
-        ensures { result ≡ (only_empty && is_some self.now.lines.date) }
+        ensures { result ≡ (only_empty && is_some self.now.root) }
     {
-        only_empty && self.gaz.date().is_some()
+        only_empty && self.mirror.root().is_some()
     }
 
-    /// What a load makes. Its file is closed again.
-    pub(crate) fn load<F: Shelf>(
+    /// Loads a dump, and tells it, or why it is refused.
+    pub(crate) fn load<F: Shelf, T: Station>(
         &mut self,
         shelf: &mut F,
+        station: &mut T,
         date: Day,
-    ) -> Result<PlainGaz, ChangeFault>
-        ensures kept { self.new ≡ self.old }
-        ensures gives { IfSome (files_of (F.view shelf.new)) (λ files. Gives (load files date) result) }
-        ensures dated { IfOk result (λ gaz. IsSome gaz.date) }
-        ensures reached { IfSome (files_of (F.view shelf.new)) (λ files. BlamesReached files load_files result) }
-        ensures blamed { Blamed (F.view shelf.old) (F.view shelf.new) result }
+    ) -> Result<(), EndFault>
+        requires open { IsOpen self.old (T.view station.old) }
+        ensures meets { IsTrue (T.view station.old).is_told → IfSome (files_of (F.view shelf.new)) (λ files. (state : State) → Mirrors (T.view station.old).bytes state.gaz
+            → Meets files (asks_load date) state (F.view shelf.old) (F.view shelf.new) (T.view station.old) (T.view station.new) result) }
+        ensures tells { TellsShelf (F.view shelf.old) (F.view shelf.new) (T.view station.old) (T.view station.new) result }
+        ensures lasts { Lasts (T.view station.old) (T.view station.new) result }
+        ensures open { OnOk result (IsOpen self.new (T.view station.new)) }
         ensures closes { Closes load_files (F.view shelf.old) (F.view shelf.new) }
+        ensures reports { Reports (T.view station.old) (T.view station.new) result }
     {
-        let made = loaded(self.alloc, shelf, &mut self.cutter, date);
-        shelf.close_all();
-        made
+        let made = load(
+            self.alloc,
+            &mut self.mirror,
+            shelf,
+            station,
+            &mut self.cutter,
+            date,
+        );
+        tell_change(station, Done::Load(date), made)
     }
 
-    /// What a day makes. Its files are closed again.
-    pub(crate) fn day<F: Shelf>(
+    /// Applies a day, and tells it, or why it is refused.
+    pub(crate) fn day<F: Shelf, T: Station>(
         &mut self,
         shelf: &mut F,
+        station: &mut T,
         date: Day,
-    ) -> Result<PlainGaz, ChangeFault>
-        ensures kept { self.new ≡ self.old }
-        ensures gives { IfSome (files_of (F.view shelf.new)) (λ files. Gives (day self.old.lines files date) result) }
-        ensures dated { IfOk result (λ gaz. IsSome gaz.date) }
-        ensures reached { IfSome (files_of (F.view shelf.new)) (λ files. BlamesReached files (day_opens (in_sequence self.old.lines.date date)) result) }
-        ensures blamed { Blamed (F.view shelf.old) (F.view shelf.new) result }
-        ensures closes { Closes (day_opens (in_sequence self.old.lines.date date)) (F.view shelf.old) (F.view shelf.new) }
-    {
-        if let Err(fault) = follow(self.gaz.date(), date) {
-            return Err(fault);
-        }
-        let made = next_gazetteer(&self.gaz, shelf, &mut self.cutter, date);
-        shelf.close_all();
-        made
-    }
-
-    /// Stores what a change made, takes it in place of the old gazetteer, and tells it.
-    fn keep<T: Station>(
-        &mut self,
-        station: &mut T,
-        change: Done,
-        gaz: PlainGaz,
-    ) -> Result<(), Failed>
-        requires dated { IsSome gaz.date }
+    ) -> Result<(), EndFault>
         requires open { IsOpen self.old (T.view station.old) }
-        ensures given { IsGiven (made change gaz) (state_of self.old) (T.view station.old) (T.view station.new) result
-            ⊎ IsGiven (same_state (state_of self.old) (refused memory)) (state_of self.old) (T.view station.old) (T.view station.new) result }
+        ensures meets { IsTrue (T.view station.old).is_told → IfSome (files_of (F.view shelf.new)) (λ files. (state : State) → Mirrors (T.view station.old).bytes state.gaz
+            → Meets files (asks_day date) state (F.view shelf.old) (F.view shelf.new) (T.view station.old) (T.view station.new) result) }
+        ensures tells { TellsShelf (F.view shelf.old) (F.view shelf.new) (T.view station.old) (T.view station.new) result }
+        ensures lasts { Lasts (T.view station.old) (T.view station.new) result }
         ensures open { OnOk result (IsOpen self.new (T.view station.new)) }
+        ensures closes { Closes (day_opens (in_sequence (option_map (λ root. root.day) self.old.root) date)) (F.view shelf.old) (F.view shelf.new) }
         ensures reports { Reports (T.view station.old) (T.view station.new) result }
     {
-        match store(self.alloc, station, self.side, &gaz) {
-            Ok(side) => {
-                self.gaz = gaz;
-                self.side = Some(side);
-                write_done(station, change)
-            }
-            Err(StoreFault::Memory) => write_refusal(station, &Refusal::Memory),
-            Err(StoreFault::Station) => Err(Failed),
-        }
-    }
-
-    /// Stores what a change made and tells it, or tells why the change is refused.
-    pub(crate) fn finish<T: Station>(
-        &mut self,
-        station: &mut T,
-        change: Done,
-        made: Result<PlainGaz, ChangeFault>,
-    ) -> Result<(), Failed>
-        requires dated { IfOk made (λ gaz. IsSome gaz.date) }
-        requires open { IsOpen self.old (T.view station.old) }
-        ensures finishes { Finishes change made (state_of self.old) (T.view station.old) (T.view station.new) result }
-        ensures open { OnOk result (IsOpen self.new (T.view station.new)) }
-        ensures reports { Reports (T.view station.old) (T.view station.new) result }
-    {
-        match made {
-            Ok(gaz) => self.keep(station, change, gaz),
-            Err(fault) => write_refusal(station, &fault.refusal()),
-        }
+        let made = apply(
+            self.alloc,
+            &mut self.mirror,
+            shelf,
+            station,
+            &mut self.cutter,
+            date,
+        );
+        tell_change(station, Done::Day(date), made)
     }
 
     /// Tells the place with the id, if there is one.
-    pub(crate) fn tell_place<T: Station>(&self, station: &mut T, id: u32) -> Result<(), Failed>
-        ensures given { IsGiven (same_state (state_of self.now) (if_loaded (state_of self.now) (rows (option_to_list (line_with Rows (id ∷ []) self.now.lines))))) (state_of self.now) (T.view station.old) (T.view station.new) result }
-        ensures open { IsOpen self.now (T.view station.old) → IsOpen self.now (T.view station.new) }
+    pub(crate) fn tell_place<T: Station>(
+        &mut self,
+        station: &mut T,
+        id: u32,
+    ) -> Result<(), EndFault>
+        requires open { IsOpen self.old (T.view station.old) }
+        ensures tells { Tells (λ gaz reply. reply ≡ if_loaded (state_of gaz) (rows (option_to_list (line_with Rows (id ∷ []) gaz)))) (T.view station.old) (T.view station.new) result }
+        ensures kept { self.new ≡ self.old }
         ensures reports { Reports (T.view station.old) (T.view station.new) result }
     {
-        match self.gaz.date() {
-            None => write_refusal(station, &Refusal::NotLoaded),
-            Some(_) => tell_found(station, self.gaz.get(id)),
+        if self.mirror.root().is_none() {
+            return refuse(station, &Refusal::NotLoaded);
+        }
+        match get_row(&mut self.mirror, station, id, &mut self.buf) {
+            Ok(Some(size)) => tell_found(station, Some(&self.buf[..size])),
+            Ok(None) => tell_found(station, None),
+            Err(fault) => Err(end_of(fault)),
+        }
+    }
+
+    /// Tells the line of an admin code, if there is one.
+    pub(crate) fn tell_code<T: Station>(
+        &mut self,
+        station: &mut T,
+        code: &str,
+    ) -> Result<(), EndFault>
+        requires open { IsOpen self.old (T.view station.old) }
+        ensures tells { Tells (λ gaz reply. reply ≡ if_loaded (state_of gaz) (rows (option_to_list (line_with Codes code.now gaz)))) (T.view station.old) (T.view station.new) result }
+        ensures kept { self.new ≡ self.old }
+        ensures reports { Reports (T.view station.old) (T.view station.new) result }
+    {
+        if self.mirror.root().is_none() {
+            return refuse(station, &Refusal::NotLoaded);
+        }
+        match get_code(&mut self.mirror, station, code.as_bytes(), &mut self.buf) {
+            Ok(Some(size)) => tell_found(station, Some(&self.buf[..size])),
+            Ok(None) => tell_found(station, None),
+            Err(fault) => Err(end_of(fault)),
         }
     }
 
@@ -205,17 +214,34 @@ impl Session {
         &mut self,
         station: &mut T,
         query: &Query<'_>,
-    ) -> Result<(), Failed>
-        requires { IsLimited (asked query.now) }
-        ensures given { IsGiven (same_state (state_of self.old) (if_loaded (state_of self.old) (rows (search_of self.old.lines (asked query.now))))) (state_of self.old) (T.view station.old) (T.view station.new) result
-            ⊎ (AsksName (asked query.now).name × IsGiven (same_state (state_of self.old) (refused memory)) (state_of self.old) (T.view station.old) (T.view station.new) result) }
+    ) -> Result<(), EndFault>
+        requires limited { IsLimited (asked query.now) }
+        requires open { IsOpen self.old (T.view station.old) }
+        ensures tells { Tells (λ gaz reply. (reply ≡ if_loaded (state_of gaz) (rows (search_of gaz (asked query.now)))) ⊎ ((reply ≡ refused memory) × AsksName (asked query.now).name)) (T.view station.old) (T.view station.new) result }
         ensures kept { self.new ≡ self.old }
-        ensures open { IsOpen self.old (T.view station.old) → IsOpen self.new (T.view station.new) }
         ensures reports { Reports (T.view station.old) (T.view station.new) result }
     {
-        match self.gaz.date() {
-            None => write_refusal(station, &Refusal::NotLoaded),
-            Some(_) => tell_answer(station, &self.gaz, &mut self.best, query),
+        if self.mirror.root().is_none() {
+            return refuse(station, &Refusal::NotLoaded);
+        }
+        match search(
+            self.alloc,
+            &mut self.mirror,
+            station,
+            query,
+            &mut self.buf,
+            &mut self.best,
+        ) {
+            Ok(()) => tell_rows(
+                &mut self.mirror,
+                station,
+                &mut self.buf,
+                self.best.cut(query.start, query.max),
+                0,
+            ),
+            Err(AskFault::Memory) => refuse(station, &Refusal::Memory),
+            Err(AskFault::Failed) => Err(EndFault::Station),
+            Err(AskFault::Damaged(page)) => Err(EndFault::Damaged(page)),
         }
     }
 
@@ -225,40 +251,57 @@ impl Session {
         station: &mut T,
         id: u32,
         max: u32,
-    ) -> Result<(), Failed>
-        requires { max ≤ 1000 }
-        ensures given { IsGiven (same_state (state_of self.old) (if_loaded (state_of self.old) (rows (children_of self.old.lines id max)))) (state_of self.old) (T.view station.old) (T.view station.new) result }
+    ) -> Result<(), EndFault>
+        requires max { max ≤ 1000 }
+        requires open { IsOpen self.old (T.view station.old) }
+        ensures tells { Tells (λ gaz reply. reply ≡ if_loaded (state_of gaz) (rows (children_of gaz id max))) (T.view station.old) (T.view station.new) result }
         ensures kept { self.new ≡ self.old }
-        ensures open { IsOpen self.old (T.view station.old) → IsOpen self.new (T.view station.new) }
         ensures reports { Reports (T.view station.old) (T.view station.new) result }
     {
-        match self.gaz.date() {
-            None => write_refusal(station, &Refusal::NotLoaded),
-            Some(_) => tell_children(station, &self.gaz, &mut self.best, id, max),
+        if self.mirror.root().is_none() {
+            return refuse(station, &Refusal::NotLoaded);
+        }
+        match children(
+            &mut self.mirror,
+            station,
+            id,
+            max,
+            &mut self.buf,
+            &mut self.best,
+        ) {
+            Ok(()) => tell_rows(
+                &mut self.mirror,
+                station,
+                &mut self.buf,
+                self.best.cut(0, max),
+                0,
+            ),
+            Err(fault) => Err(end_of(fault)),
         }
     }
 
     /// Tells the chain of the place with the id, from the top down.
-    pub(crate) fn tell_chain<T: Station>(&self, station: &mut T, id: u32) -> Result<(), Failed>
-        ensures given { IsGiven (same_state (state_of self.now) (if_loaded (state_of self.now) (rows (hierarchy_of self.now.lines id)))) (state_of self.now) (T.view station.old) (T.view station.new) result }
-        ensures open { IsOpen self.now (T.view station.old) → IsOpen self.now (T.view station.new) }
+    pub(crate) fn tell_chain<T: Station>(
+        &mut self,
+        station: &mut T,
+        id: u32,
+    ) -> Result<(), EndFault>
+        requires open { IsOpen self.old (T.view station.old) }
+        ensures tells { Tells (λ gaz reply. reply ≡ if_loaded (state_of gaz) (rows (hierarchy_of gaz id))) (T.view station.old) (T.view station.new) result }
+        ensures kept { self.new ≡ self.old }
         ensures reports { Reports (T.view station.old) (T.view station.new) result }
     {
-        match self.gaz.date() {
-            None => write_refusal(station, &Refusal::NotLoaded),
-            Some(_) => tell_chain(station, &self.gaz, id),
+        if self.mirror.root().is_none() {
+            return refuse(station, &Refusal::NotLoaded);
         }
-    }
-
-    /// Tells the line of an admin code, if there is one.
-    pub(crate) fn tell_code<T: Station>(&self, station: &mut T, code: &str) -> Result<(), Failed>
-        ensures given { IsGiven (same_state (state_of self.now) (if_loaded (state_of self.now) (rows (option_to_list (line_with Codes code.now self.now.lines))))) (state_of self.now) (T.view station.old) (T.view station.new) result }
-        ensures open { IsOpen self.now (T.view station.old) → IsOpen self.now (T.view station.new) }
-        ensures reports { Reports (T.view station.old) (T.view station.new) result }
-    {
-        match self.gaz.date() {
-            None => write_refusal(station, &Refusal::NotLoaded),
-            Some(_) => tell_found(station, self.gaz.admin(code.as_bytes())),
+        let mut ids = [0; 64];
+        match chain(&mut self.mirror, station, id, &mut self.buf, &mut ids) {
+            Ok(count) => {
+                let above = &mut ids[..count];
+                above.reverse();
+                tell_rows(&mut self.mirror, station, &mut self.buf, above, 0)
+            }
+            Err(fault) => Err(end_of(fault)),
         }
     }
 }

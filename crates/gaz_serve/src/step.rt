@@ -2,16 +2,17 @@
 ghost use Rattle.std.specs.Prelude.{List, Ok, IsTrue, IfSome, OnOk};
 ghost use Rattle.gaz_outside.specs.Outside.{files_of};
 ghost use Rattle.gaz_num.specs.declared.words.FileName.{FileName};
-ghost use Rattle.gaz_open.specs.Content.{Mirrors};
+ghost use Rattle.gaz_rows.specs.Content.{Mirrors};
 ghost use Rattle.gaz_words.specs.Grammar.{asked_of, IsWithinLimits};
 ghost use Rattle.gaz_turns.specs.Turns.{State, opens};
 ghost use Rattle.gaz_serve.specs.Change.{Closes};
-ghost use Rattle.gaz_serve.specs.Session.{IsOpen, state_of};
-ghost use Rattle.gaz_serve.specs.Step.{Meets, OneStep, Reports, TellsShelf};
+ghost use Rattle.gaz_serve.specs.Session.{IsOpen, dated_state};
+ghost use Rattle.gaz_serve.specs.Step.{Lasts, Meets, OneStep, Reports, TellsShelf};
 
 use crate::session::Session;
-use gaz_outside::{Failed, Shelf, Station};
-use gaz_reply::{Done, Refusal, write_refusal};
+use crate::tell::refuse;
+use gaz_outside::{Shelf, Station};
+use gaz_reply::Refusal;
 use gaz_words::{Request, read_request};
 
 /// Why a session ends with a request.
@@ -19,6 +20,8 @@ use gaz_words::{Request, read_request};
 pub enum EndFault {
     /// The station failed.
     Station,
+    /// This page isn't what it has to be.
+    Damaged(u32),
 }
 
 /// Answers a request that was read.
@@ -27,24 +30,20 @@ fn answer_request<F: Shelf, T: Station>(
     shelf: &mut F,
     station: &mut T,
     request: &Request<'_>,
-) -> Result<(), Failed>
+) -> Result<(), EndFault>
     requires open { IsOpen session.old (T.view station.old) }
     requires within { IsWithinLimits (asked_of request.now) }
-    ensures step { IfSome (files_of (F.view shelf.new)) (λ files. Meets files (asked_of request.now) (state_of session.old) (F.view shelf.old) (F.view shelf.new) (T.view station.old) (T.view station.new) result) }
+    ensures step { IsTrue (T.view station.old).is_told → IfSome (files_of (F.view shelf.new)) (λ files. (state : State) → Mirrors (T.view station.old).bytes state.gaz
+        → Meets files (asked_of request.now) state (F.view shelf.old) (F.view shelf.new) (T.view station.old) (T.view station.new) result) }
     ensures tells { TellsShelf (F.view shelf.old) (F.view shelf.new) (T.view station.old) (T.view station.new) result }
+    ensures lasts { Lasts (T.view station.old) (T.view station.new) result }
     ensures open { OnOk result (IsOpen session.new (T.view station.new)) }
-    ensures closes { Closes (opens (state_of session.old) (Ok (asked_of request.now))) (F.view shelf.old) (F.view shelf.new) }
+    ensures closes { Closes (opens (dated_state session.old) (Ok (asked_of request.now))) (F.view shelf.old) (F.view shelf.new) }
     ensures reports { Reports (T.view station.old) (T.view station.new) result }
 {
     match request {
-        Request::Load(date) => {
-            let made = session.load(shelf, *date);
-            session.finish(station, Done::Load(*date), made)
-        }
-        Request::Day(date) => {
-            let made = session.day(shelf, *date);
-            session.finish(station, Done::Day(*date), made)
-        }
+        Request::Load(date) => session.load(shelf, station, *date),
+        Request::Day(date) => session.day(shelf, station, *date),
         Request::Get(id) => session.tell_place(station, *id),
         Request::Search(query) => session.tell_search(station, query),
         Request::Children(id, max) => session.tell_children(station, *id, *max),
@@ -53,8 +52,8 @@ fn answer_request<F: Shelf, T: Station>(
     }
 }
 
-/// Answers one request line, given without its LF: a load or a day that is accepted is stored, and then the reply is printed.
-/// After `Station` a front of the reply was printed, and the session is at its end.
+/// Answers one request line, given without its LF: a load or a day that is accepted is committed, and then the reply is printed.
+/// After `Station` and `Damaged` a front of the reply was printed, and the session is at its end.
 pub fn answer<F: Shelf, T: Station>(
     session: &mut Session,
     shelf: &mut F,
@@ -68,6 +67,9 @@ pub fn answer<F: Shelf, T: Station>(
     ensures step { IsTrue (T.view station.old).is_told → IsTrue (F.view shelf.old).is_told → (state : State) → Mirrors (T.view station.old).bytes state.gaz
         → OneStep line.now state (F.view shelf.old) (F.view shelf.new) (T.view station.old) (T.view station.new) result }
 
+    // Over any shelf: damage is met only where the areas mirror no gazetteer, and after `Ok` they mirror one where they did.
+    ensures lasts { Lasts (T.view station.old) (T.view station.new) result }
+
     // Over any shelf: the reply says whether it failed, and at which file. No file is open that wasn't.
     ensures tells { TellsShelf (F.view shelf.old) (F.view shelf.new) (T.view station.old) (T.view station.new) result }
     ensures closes { (names : List FileName) × Closes names (F.view shelf.old) (F.view shelf.new) }
@@ -76,12 +78,8 @@ pub fn answer<F: Shelf, T: Station>(
     ensures open { OnOk result (IsOpen session.new (T.view station.new)) }
     ensures reports { Reports (T.view station.old) (T.view station.new) result }
 {
-    let told = match read_request(line) {
+    match read_request(line) {
         Ok(request) => answer_request(session, shelf, station, &request),
-        Err(bad) => write_refusal(station, &Refusal::Request(bad.word())),
-    };
-    match told {
-        Ok(()) => Ok(()),
-        Err(Failed) => Err(EndFault::Station),
+        Err(bad) => refuse(station, &Refusal::Request(bad.word())),
     }
 }

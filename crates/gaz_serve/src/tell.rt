@@ -1,25 +1,98 @@
-//! Replies that tell lines.
-ghost use Rattle.std.specs.Prelude.{◌+◌, ◌<◌, ◌≤◌, ◌^◌, length, map, option_to_list, option_copied};
-ghost use Rattle.gaz_outside.specs.Outside.{Prints};
-ghost use Rattle.gaz_outside.specs.Station.{AreasStay};
-ghost use Rattle.gaz_reply.specs.Reply.{rows};
-ghost use Rattle.gaz_reply.specs.Tells.{MayBeCut};
-ghost use Rattle.gaz_pick.specs.Asked.{asked};
-ghost use Rattle.gaz_words.specs.Grammar.{IsLimited};
-ghost use Rattle.gaz_serve.specs.Step.{Replies, Reports};
-ghost use Rattle.gaz_plain.specs.Kin.{children_of, hierarchy_of};
-ghost use Rattle.gaz_serve.specs.Tell.{rest_text, TellsSearch};
+//! Replies: what is told of a change, of a line, and of rows.
+ghost use Rattle.std.specs.Prelude.{◌≡◌, ◌≢◌, ◌+◌, ◌<◌, ◌≤◌, ◌^◌, length, map, option_to_list, option_copied, ◌∷◌, [], Ok, Err, IsTrue, IsSome, IfOk, IfErr, OnOk};
+ghost use Rattle.gaz_pages.specs.Fits.{Fits};
+ghost use Rattle.gaz_pages.specs.Held.{root_of};
+ghost use Rattle.gaz_plain.specs.Kin.{rows_with};
+ghost use Rattle.gaz_outside.specs.Outside.{HasCause, Prints};
+ghost use Rattle.gaz_reply.specs.Reply.{done, refused, rows, with_ends, end_line, refusal_of as refusal_in};
+ghost use Rattle.gaz_turns.specs.Steps.{AreasKept, IsCutIn};
+ghost use Rattle.gaz_rows.specs.Store.{TakesNoMemory};
+ghost use Rattle.gaz_serve.specs.Change.{told_by};
+ghost use Rattle.gaz_serve.specs.Step.{EndsOnce, IsSound, Replies, Reports};
+ghost use Rattle.gaz_serve.specs.Tell.{ends_by, IsPrinted, TellsRest};
 
+use crate::step::EndFault;
+use gaz_ask::get_row;
 use gaz_outside::{Failed, Station};
-use gaz_pick::{Best, Query};
-use gaz_plain::PlainGaz;
-use gaz_reply::{Refusal, write_end, write_refusal, write_row};
-use std::alloc::AllocError;
+use gaz_pages::Mirror;
+use gaz_reply::{Done, Refusal, write_done, write_end, write_refusal, write_row};
+use gaz_rows::{AskFault, ChangeFault};
+
+/// How a run ends with a question that came to nothing.
+pub(crate) fn end_of(fault: AskFault) -> EndFault
+    requires { TakesNoMemory fault }
+    ensures { result ≡ ends_by fault }
+{
+    match fault {
+        AskFault::Failed => EndFault::Station,
+        AskFault::Damaged(page) => EndFault::Damaged(page),
+        AskFault::Memory => unreachable!(),
+    }
+}
+
+/// What is printed of a change that is refused, or why the run ends there.
+fn refusal_of(fault: ChangeFault) -> Result<Refusal<'static>, EndFault>
+    ensures told { IfOk result (λ why. told_by fault ≡ Ok (refusal_in why)) }
+    ensures ends { IfErr result (λ why. told_by fault ≡ Err why) }
+{
+    match fault {
+        ChangeFault::NotLoaded => Ok(Refusal::NotLoaded),
+        ChangeFault::Sequence(have) => Ok(Refusal::Sequence(have)),
+        ChangeFault::Absent(file) => Ok(Refusal::Absent(file)),
+        ChangeFault::Shelf(file) => Ok(Refusal::Shelf(file)),
+        ChangeFault::TooLong(file) => Ok(Refusal::TooLong(file)),
+        ChangeFault::Malformed(file, line, reason) => Ok(Refusal::Malformed(file, line, reason)),
+        ChangeFault::Full(file, line, table) => Ok(Refusal::Full(file, line, table)),
+        ChangeFault::Memory => Ok(Refusal::Memory),
+        ChangeFault::Station => Err(EndFault::Station),
+        ChangeFault::Damaged(page) => Err(EndFault::Damaged(page)),
+    }
+}
+
+/// Prints a refusal.
+pub(crate) fn refuse<T: Station>(station: &mut T, why: &Refusal<'_>) -> Result<(), EndFault>
+    ensures replies { Replies (refused (refusal_in why.now)) (T.view station.old) (T.view station.new) result }
+    ensures sound { IsSound result }
+    ensures reports { Reports (T.view station.old) (T.view station.new) result }
+{
+    match write_refusal(station, why) {
+        Ok(()) => Ok(()),
+        Err(Failed) => Err(EndFault::Station),
+    }
+}
+
+/// Tells what a change came to: that it was made, or why it was refused; or nothing is called, and the run ends there.
+pub(crate) fn tell_change<T: Station>(
+    station: &mut T,
+    change: Done,
+    made: Result<(), ChangeFault>,
+) -> Result<(), EndFault>
+    ensures made { OnOk made (Replies (done change) (T.view station.old) (T.view station.new) result) }
+    ensures refused { IfErr made (λ fault. IfOk (told_by fault) (λ why. Replies (refused why) (T.view station.old) (T.view station.new) result)) }
+    ensures ends { IfErr made (λ fault. IfErr (told_by fault) (λ why. (station.new ≡ station.old) × (result ≡ Err why))) }
+    ensures sound { OnOk made (IsSound result) }
+    ensures sound_refused { IfErr made (λ fault. IfOk (told_by fault) (λ why. IsSound result)) }
+    ensures cause { OnOk made (EndsOnce (T.view station.old).faults (T.view station.new).faults result) }
+    ensures cause_refused { IfErr made (λ fault. IfOk (told_by fault) (λ why. EndsOnce (T.view station.old).faults (T.view station.new).faults result)) }
+    ensures told { (T.view station.new).is_told ≡ (T.view station.old).is_told }
+{
+    match made {
+        Ok(()) => match write_done(station, change) {
+            Ok(()) => Ok(()),
+            Err(Failed) => Err(EndFault::Station),
+        },
+        Err(fault) => match refusal_of(fault) {
+            Ok(why) => refuse(station, &why),
+            Err(end) => Err(end),
+        },
+    }
+}
 
 /// Prints the line that was found, if there is one, and the number of lines.
-pub(crate) fn tell_found<T: Station>(station: &mut T, line: Option<&[u8]>) -> Result<(), Failed>
-    ensures replies { Replies (rows (option_to_list (option_copied line.entry))) (T.view station.old) (T.view station.new) result }
-    ensures reports { Reports (T.view station.old) (T.view station.new) result }
+pub(crate) fn write_found<T: Station>(station: &mut T, line: Option<&[u8]>) -> Result<(), Failed>
+    ensures replies { IsPrinted (rows (option_to_list (option_copied line.entry))) (T.view station.old) (T.view station.new) result }
+    ensures told { (T.view station.new).is_told ≡ (T.view station.old).is_told }
+    ensures cause { HasCause (T.view station.old).faults (T.view station.new).faults result }
 {
     match line {
         Some(line) => match write_row(station, line) {
@@ -27,6 +100,18 @@ pub(crate) fn tell_found<T: Station>(station: &mut T, line: Option<&[u8]>) -> Re
             Err(failed) => Err(failed),
         },
         None => write_end(station, 0),
+    }
+}
+
+/// Tells the line that was found, if there is one.
+pub(crate) fn tell_found<T: Station>(station: &mut T, line: Option<&[u8]>) -> Result<(), EndFault>
+    ensures replies { Replies (rows (option_to_list (option_copied line.entry))) (T.view station.old) (T.view station.new) result }
+    ensures sound { IsSound result }
+    ensures reports { Reports (T.view station.old) (T.view station.new) result }
+{
+    match write_found(station, line) {
+        Ok(()) => Ok(()),
+        Err(Failed) => Err(EndFault::Station),
     }
 }
 
@@ -57,72 +142,46 @@ impl OfRow for (i64, u32) {
 }
 
 /// Prints the rows with these ids, behind so many that were printed, and then the number of all. It calls itself once for each id,
-/// and no question tells more than 1,000.
-fn tell_rows<T: Station, I: OfRow>(
+/// and no question tells more than 1,000. A row is read before it is printed: where it can't be, the rows before it stand in the text.
+pub(crate) fn tell_rows<T: Station, I: OfRow>(
+    mirror: &mut Mirror,
     station: &mut T,
-    gaz: &PlainGaz,
+    buf: &mut [u8],
     rows: &[I],
     told: u64,
-) -> Result<(), Failed>
-    requires { told + length rows.now < 2 ^ 64 }
-    ensures printed { Prints (rest_text gaz.now (map I.names rows.now) told) (T.view station.old) (T.view station.new) result }
-    ensures moments { MayBeCut (rest_text gaz.now (map I.names rows.now) told) (T.view station.old) (T.view station.new) }
-    ensures areas { AreasStay (T.view station.old) (T.view station.new) }
+) -> Result<(), EndFault>
+    requires few { told + length rows.now < 2 ^ 64 }
+    requires loaded { IsSome (root_of mirror.old) }
+    requires fits { IsTrue (T.view station.old).is_told → Fits (root_of mirror.old) (T.view station.old) }
+    requires room { 65535 ≤ length buf.old }
+    ensures tells { TellsRest told (λ gaz. rows_with gaz (map I.names rows.now)) (T.view station.old) (T.view station.new) result }
+    ensures root { root_of mirror.new ≡ root_of mirror.old }
+    ensures size { length buf.new ≡ length buf.old }
     ensures reports { Reports (T.view station.old) (T.view station.new) result }
 {
     match rows {
-        [first, rest @ ..] => match gaz.get(first.id()) {
-            Some(line) => match write_row(station, line) {
-                Ok(()) => tell_rows(station, gaz, rest, told + 1),
-                Err(failed) => Err(failed),
+        [first, rest @ ..] => match get_row(mirror, station, first.id(), buf) {
+            Ok(Some(size)) => match write_row(station, &buf[..size]) {
+                Ok(()) => tell_rows(mirror, station, buf, rest, told + 1),
+                Err(Failed) => Err(EndFault::Station),
             },
-            None => tell_rows(station, gaz, rest, told),
+            Ok(None) => tell_rows(mirror, station, buf, rest, told),
+            Err(fault) => Err(end_of(fault)),
         },
-        [] => write_end(station, told),
+        [] => tell_end(station, told),
     }
 }
 
-/// Tells the answer to a search, the first of the rows that match, or that memory was wanting.
-pub(crate) fn tell_answer<T: Station>(
-    station: &mut T,
-    gaz: &PlainGaz,
-    best: &mut Best,
-    query: &Query<'_>,
-) -> Result<(), Failed>
-    requires { IsLimited (asked query.now) }
-    ensures tells { TellsSearch gaz.now (asked query.now) (T.view station.old) (T.view station.new) result }
+/// Prints the number of lines.
+fn tell_end<T: Station>(station: &mut T, told: u64) -> Result<(), EndFault>
+    ensures printed { Prints (with_ends (end_line told ∷ [])) (T.view station.old) (T.view station.new) result }
+    ensures moments { IsCutIn (with_ends (end_line told ∷ [])) (T.view station.old) (T.view station.new) }
+    ensures areas { AreasKept (T.view station.old) (T.view station.new) }
+    ensures sound { IsSound result }
     ensures reports { Reports (T.view station.old) (T.view station.new) result }
 {
-    match gaz.select(query, best) {
-        Ok(()) => tell_rows(station, gaz, best.cut(query.start, query.max), 0),
-        Err(AllocError) => write_refusal(station, &Refusal::Memory),
+    match write_end(station, told) {
+        Ok(()) => Ok(()),
+        Err(Failed) => Err(EndFault::Station),
     }
-}
-
-/// Tells the first children of a place.
-pub(crate) fn tell_children<T: Station>(
-    station: &mut T,
-    gaz: &PlainGaz,
-    best: &mut Best,
-    id: u32,
-    max: u32,
-) -> Result<(), Failed>
-    requires { max ≤ 1000 }
-    ensures replies { Replies (rows (children_of gaz.now id max)) (T.view station.old) (T.view station.new) result }
-    ensures reports { Reports (T.view station.old) (T.view station.new) result }
-{
-    gaz.children(id, max, best);
-    tell_rows(station, gaz, best.cut(0, max), 0)
-}
-
-/// Tells the chain of a place from the top down.
-pub(crate) fn tell_chain<T: Station>(station: &mut T, gaz: &PlainGaz, id: u32) -> Result<(), Failed>
-    ensures replies { Replies (rows (hierarchy_of gaz.now id)) (T.view station.old) (T.view station.new) result }
-    ensures reports { Reports (T.view station.old) (T.view station.new) result }
-{
-    let mut ids = [0; 64];
-    let count = gaz.chain(id, &mut ids);
-    let chain = &mut ids[..count];
-    chain.reverse();
-    tell_rows(station, gaz, chain, 0)
 }

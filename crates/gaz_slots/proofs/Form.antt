@@ -33,7 +33,7 @@ within_says page k is used =
           record { low = leb-true (mark_in page) (from_in page k) parts.0; high = leb-true (from_in page k + size_in page k) 4096 parts.1 }
     ]
 
-within_from : (page : List ℕ) (k : ℕ) → (from_in page k ≢ 0 → Within page k) → is_within page k ≡ true
+pub within_from : (page : List ℕ) (k : ℕ) → (from_in page k ≢ 0 → Within page k) → is_within page k ≡ true
 within_from page k says =
     elim (cases_eq (from_in page k) 0) [
       | inl free ↦ or_left (from_in page k == 0) _ (eq-eqb (from_in page k) 0 free)
@@ -57,7 +57,7 @@ apart_says page i j is one other =
       ]
     ]
 
-apart_from : (page : List ℕ) (i j : ℕ) → (from_in page i ≢ 0 → from_in page j ≢ 0 → (from_in page i + size_in page i ≤ from_in page j) ⊎ (from_in page j + size_in page j ≤ from_in page i)) → is_apart page i j ≡ true
+pub apart_from : (page : List ℕ) (i j : ℕ) → (from_in page i ≢ 0 → from_in page j ≢ 0 → (from_in page i + size_in page i ≤ from_in page j) ⊎ (from_in page j + size_in page j ≤ from_in page i)) → is_apart page i j ≡ true
 apart_from page i j says =
     let a = from_in page i == 0 in
     let b = from_in page j == 0 in

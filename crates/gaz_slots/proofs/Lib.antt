@@ -1,6 +1,7 @@
 pub mod Below
 pub mod Edits
 pub mod Form
+pub mod Falling
 pub mod Placed
 pub mod Emptied
 pub mod Overwritten

@@ -140,12 +140,36 @@ fn are_apart(page: &[u8]) -> bool
     true
 }
 
+/// Whether each record ends where the one of the used slot before it begins, or earlier, and the last begins at the mark or behind it. So puts
+/// leave a page until a slot of it is filled anew, and then one walk over the slots tells what takes one over all pairs of them else.
+fn are_falling(page: &[u8]) -> bool
+    requires size { length page.now ≡ 4096 }
+    requires slots { 16 + 4 * count_in page.now ≤ 4096 }
+    ensures within { result ≡ true → all_below (count_in page.now) (stands_within page.now) ≡ true }
+    ensures apart { result ≡ true → all_below (count_in page.now) (λ slot. all_below slot (stand_apart page.now slot)) ≡ true }
+{
+    let mut lowest = PAGE;
+    for slot in 0..count(page) {
+        let from = from_of(page, slot);
+        if from != 0 {
+            if from + size_of(page, slot) > lowest {
+                return false;
+            }
+            lowest = from;
+        }
+    }
+    mark(page) <= lowest
+}
+
 /// Whether the page is a record page in form, of this number.
 #[tactic(auto, unfolding(crate::specs::RecordPage::is_record_page))]
 pub fn is_record_page(number: u32, page: &[u8]) -> bool
     ensures { result ≡ is_in_form number page.now }
 {
-    has_head(number, page) && is_marked(page) && are_within(page) && are_apart(page)
+    if !has_head(number, page) || !is_marked(page) {
+        return false;
+    }
+    are_falling(page) || (are_within(page) && are_apart(page))
 }
 
 /// Writes a record into a free slot, before all others.

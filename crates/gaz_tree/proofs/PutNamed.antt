@@ -5,7 +5,7 @@ use Rattle.gaz_page.specs.declared.pages.PageFault.{PageFault}
 use Rattle.gaz_page.specs.declared.pages.PageFault.TheVariants.{Failed, Damaged, Memory}
 use Rattle.gaz_page.specs.Pages.{PagesView, SamePages}
 use Rattle.gaz_leaf.specs.declared.kind.Kind.{Kind}
-use Rattle.gaz_leaf.specs.declared.kind.Kind.TheVariants.{Leaf, Inner}
+use Rattle.gaz_leaf.specs.declared.kind.Kind.TheVariants.{Inner}
 use Rattle.gaz_leaf.specs.Node.{IsForm, count_of}
 use Rattle.gaz_tree.specs.declared.grown.Grown.{Grown}
 use Rattle.gaz_tree.specs.declared.tree.Tree.{Tree}
@@ -33,18 +33,11 @@ put_since old new from page (Err Memory) names = tt
 put_since old new from page (Err (Damaged n)) names = inr names
 
 -- one more entry in a leaf
-pub put_leaf_added : (old mid new : PagesView) (page n : ℕ) (result : Result Grown PageFault) → SamePages old mid → n ≤ count_of (old.page page) → AddNames Leaf page n mid new result → PutNames old new 0 page result
-put_leaf_added old mid new page n (Ok x) same le names = tt
-put_leaf_added old mid new page n (Err Failed) same le names = tt
-put_leaf_added old mid new page n (Err Memory) same le names = tt
-put_leaf_added old mid new page n (Err (Damaged m)) same le (inl met) = inl (take_meets 0 old mid m (along_same old mid same) met)
-put_leaf_added old mid new page n (Err (Damaged m)) same le (inr names) = inr (record {
-  level = 0;
-  leads = λ left. (refl, names.0);
-  unfit = λ stays fit. names.2
-      (subst (λ (q : ℕ → List ℕ). IsForm Leaf page (q page)) (sym same.pages) (subst (λ (k : ℕ). IsForm Leaf k (old.page k)) names.0 fit.form))
-      (subst (λ (q : ℕ → List ℕ). n ≤ count_of (q page)) (sym same.pages) le);
-})
+pub put_leaf_taken : (old mid new : PagesView) (page : ℕ) (result : Result Grown PageFault) → SamePages old mid → IsTakeDamage mid result → PutNames old new 0 page result
+put_leaf_taken old mid new page (Ok x) same damaged = tt
+put_leaf_taken old mid new page (Err Failed) same damaged = tt
+put_leaf_taken old mid new page (Err Memory) same damaged = tt
+put_leaf_taken old mid new page (Err (Damaged m)) same damaged = inl (take_meets 0 old mid m (along_same old mid same) damaged)
 
 -- below a child
 pub put_up : {T : Type 0} (old mid new : PagesView) (level below page child : ℕ) (result : Result T PageFault) → level ≡ suc below → SamePages old mid

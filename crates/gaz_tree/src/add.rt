@@ -103,6 +103,40 @@ fn split<P: Pages>(
     }
 }
 
+/// Puts one more entry into a page, of which `buf` is a copy. A full page is spread over itself and a new one.
+pub fn add_to<P: Pages>(
+    pages: &mut P,
+    kind: Kind,
+    page: u32,
+    buf: &mut [u8; 4096],
+    n: usize,
+    key: &[u8; 32],
+    value: u64,
+) -> Result<Grown, PageFault>
+    requires may_change { (P.view pages.old).is_read_only ≡ false }
+    requires shaped { IsShaped kind buf.old }
+    requires within { n ≤ count_in buf.old }
+    requires fits { IsFitting kind value }
+    ensures adds { IsTrue (P.view pages.old).is_told → IsForm kind page buf.old
+        → Adds kind page (inserted n (record { key = key_of key.now; value = value }) (pairs_in kind buf.old)) (P.view pages.old) (P.view pages.new) result }
+    ensures along { OnOk result (IsTrue (P.view pages.old).is_told → buf.old ≡ (P.view pages.old).page page → IsOfKind kind buf.old
+        → TakesAlong 1 (P.view pages.old) (P.view pages.new)) }
+    ensures damaged { IsTrue (P.view pages.old).is_told → IsTakeDamage (P.view pages.old) result }
+    ensures light { IfKept result ((P.view pages.new).reads ≤ (P.view pages.old).reads) }
+    ensures counts { Counts 1 3 (P.view pages.old) (P.view pages.new) }
+    ensures cause { HasPageCause (P.view pages.old) (P.view pages.new) result }
+    ensures keeps { P.keeps pages.old pages.new }
+{
+    if count_of(buf) == kind.capacity() {
+        return split(pages, kind, page, buf, n, key, value);
+    }
+    insert(buf, kind, n, key, value);
+    match pages.write(page, buf) {
+        Ok(()) => Ok(Grown::Kept),
+        Err(fault) => Err(fault),
+    }
+}
+
 /// Puts one more entry into a page. A full page is spread over itself and a new one.
 pub fn add_entry<P: Pages>(
     pages: &mut P,
@@ -133,12 +167,5 @@ pub fn add_entry<P: Pages>(
     if n > count {
         return Err(PageFault::Damaged(page));
     }
-    if count == kind.capacity() {
-        return split(pages, kind, page, &mut buf, n, key, value);
-    }
-    insert(&mut buf, kind, n, key, value);
-    match pages.write(page, &buf) {
-        Ok(()) => Ok(Grown::Kept),
-        Err(fault) => Err(fault),
-    }
+    add_to(pages, kind, page, &mut buf, n, key, value)
 }

@@ -2,7 +2,7 @@
 ghost use Rattle.std.specs.Prelude.{◌≡◌, ◌≤◌, ◌<◌, ◌+◌, ◌^◌, ℕ, false, List, length, IsTrue, IfOk, IfErr, OnOk};
 ghost use Rattle.std.specs.Prelude.{◌∷◌, ◌++◌, take, drop};
 ghost use Rattle.gaz_page.specs.Pages.{HasPageCause, Counts};
-ghost use Rattle.gaz_leaf.specs.Node.{Pair, key_in, key_of, pairs_in, count_of as count_in, IsForm, IsPage};
+ghost use Rattle.gaz_leaf.specs.Node.{Pair, key_in, key_of, pairs_in, count_of as count_in, IsForm, IsShaped, IsOfKind, IsPage};
 ghost use Rattle.gaz_tree.specs.Pairs.{Within};
 ghost use Rattle.gaz_tree.specs.Tree.{leaf_of};
 ghost use Rattle.gaz_page.specs.Pages.{HasReads, NoMemory, NotDamaged};
@@ -51,56 +51,54 @@ fn place_in(bytes: &[u8], page: u32, key: Key, value: u64) -> Result<Place, Page
     Ok(Place::Over(next - 1))
 }
 
-/// The place in a leaf.
-pub fn read_place<P: Pages>(
+/// Copies a leaf, and answers the place in it. The copy comes first since it has the page at hand sooner than the search, which waits for one
+/// part of it after another.
+pub fn load_place<P: Pages>(
     pages: &mut P,
     page: u32,
     key: Key,
     value: u64,
+    buf: &mut [u8; 4096],
 ) -> Result<Place, PageFault>
     ensures place { IsTrue (P.view pages.old).is_told → (low high : ℕ) → IsForm Kind.Leaf page ((P.view pages.old).page page)
         → Within low high (leaf_of (P.view pages.old).page page) → low ≤ key_in key → key_in key < high
         → Places (leaf_of (P.view pages.old).page page) (record { key = key_in key; value = value }) result }
-    ensures within { IfOk result (λ place. IsTrue (P.view pages.old).is_told → IsPlaceOf (count_in ((P.view pages.old).page page)) place) }
-    ensures own { IfOk result (λ place. IsTrue (P.view pages.old).is_told → IsPage Kind.Leaf page ((P.view pages.old).page page)) }
+    ensures within { IfOk result (IsPlaceOf (count_in buf.new)) }
+    ensures own { IfOk result (λ place. IsPage Kind.Leaf page buf.new) }
+    ensures bytes { OnOk result (IsTrue (P.view pages.old).is_told → buf.new ≡ (P.view pages.old).page page) }
     ensures names { IsTrue (P.view pages.old).is_told → Names (P.view pages.old).page 0 page result }
     ensures fault { IfErr result NoMemory }
     ensures reads { HasReads 1 (P.view pages.old) (P.view pages.new) result }
     ensures keeps { P.keeps pages.old pages.new }
 {
-    match pages.read(page) {
-        Ok(bytes) => place_in(bytes, page, key, value),
+    match load(pages, Kind::Leaf, page, buf) {
+        Ok(_) => place_in(buf, page, key, value),
         Err(fault) => Err(fault),
     }
 }
 
-/// Puts a pair over another in a leaf.
+/// Puts a pair over another in a leaf, of which `buf` is a copy.
 pub fn put_over<P: Pages>(
     pages: &mut P,
     page: u32,
+    buf: &mut [u8; 4096],
     n: usize,
     key: &[u8; 32],
     value: u64,
 ) -> Result<(), PageFault>
     requires may_change { (P.view pages.old).is_read_only ≡ false }
-    ensures over { OnOk result (IsTrue (P.view pages.old).is_told → IsForm Kind.Leaf page ((P.view pages.old).page page)
-        → IsAdded Kind.Leaf page (take n (leaf_of (P.view pages.old).page page) ++ record { key = key_of key.now; value = value } ∷ drop (n + 1) (leaf_of (P.view pages.old).page page)) (P.view pages.old) (P.view pages.new)) }
-    ensures fine { IsTrue (P.view pages.old).is_told → IsForm Kind.Leaf page ((P.view pages.old).page page) → n < count_in ((P.view pages.old).page page)
-        → IfErr result NotDamaged }
-    ensures along { OnOk result (IsTrue (P.view pages.old).is_told → TakesAlong 0 (P.view pages.old) (P.view pages.new)) }
-    ensures names { IsTrue (P.view pages.old).is_told → n < count_in ((P.view pages.old).page page) → NamesSince (P.view pages.old).page (P.view pages.new).page 0 page result }
-    ensures counts { Counts 1 1 (P.view pages.old) (P.view pages.new) }
+    requires shaped { IsShaped Kind.Leaf buf.old }
+    requires within { n < count_in buf.old }
+    ensures over { OnOk result (IsTrue (P.view pages.old).is_told → IsForm Kind.Leaf page buf.old
+        → IsAdded Kind.Leaf page (take n (pairs_in Kind.Leaf buf.old) ++ record { key = key_of key.now; value = value } ∷ drop (n + 1) (pairs_in Kind.Leaf buf.old)) (P.view pages.old) (P.view pages.new)) }
+    ensures fine { IfErr result NotDamaged }
+    ensures along { OnOk result (IsTrue (P.view pages.old).is_told → buf.old ≡ (P.view pages.old).page page → IsOfKind Kind.Leaf buf.old
+        → TakesAlong 0 (P.view pages.old) (P.view pages.new)) }
+    ensures names { IsTrue (P.view pages.old).is_told → NamesSince (P.view pages.old).page (P.view pages.new).page 0 page result }
+    ensures counts { Counts 0 1 (P.view pages.old) (P.view pages.new) }
     ensures cause { HasPageCause (P.view pages.old) (P.view pages.new) result }
     ensures keeps { P.keeps pages.old pages.new }
 {
-    let mut buf = [0; 4096];
-    let count = match load(pages, Kind::Leaf, page, &mut buf) {
-        Ok(count) => count,
-        Err(fault) => return Err(fault),
-    };
-    if n >= count {
-        return Err(PageFault::Damaged(page));
-    }
-    replace(&mut buf, Kind::Leaf, n, key, value);
-    pages.write(page, &buf)
+    replace(buf, Kind::Leaf, n, key, value);
+    pages.write(page, buf)
 }

@@ -7,11 +7,11 @@ ghost use Rattle.gaz_page.specs.Chains.{TakesAlong};
 ghost use Rattle.gaz_tree.specs.Calls.{LeadsDown};
 ghost use Rattle.gaz_tree.specs.Put.{HasChain, IsTaken, Puts, PutNames, IfKept};
 
-use crate::add::add_entry;
+use crate::add::{add_entry, add_to};
 use crate::even::even_out;
 use crate::get::read_way;
 use crate::grown::Grown;
-use crate::place::{Place, put_over, read_place};
+use crate::place::{Place, load_place, put_over};
 use gaz_leaf::{Key, Kind};
 use gaz_page::{PageFault, Pages};
 
@@ -34,13 +34,14 @@ fn put_leaf<P: Pages>(
     ensures cause { HasPageCause (P.view pages.old) (P.view pages.new) result }
     ensures keeps { P.keeps pages.old pages.new }
 {
-    match read_place(pages, page, Key::read(key, 0), value) {
+    let mut buf = [0; 4096];
+    match load_place(pages, page, Key::read(key, 0), value, &mut buf) {
         Ok(Place::There) => Ok(Grown::Same),
-        Ok(Place::Over(n)) => match put_over(pages, page, n, key, value) {
+        Ok(Place::Over(n)) => match put_over(pages, page, &mut buf, n, key, value) {
             Ok(()) => Ok(Grown::Kept),
             Err(fault) => Err(fault),
         },
-        Ok(Place::Between(n)) => add_entry(pages, Kind::Leaf, page, n, key, value),
+        Ok(Place::Between(n)) => add_to(pages, Kind::Leaf, page, &mut buf, n, key, value),
         Err(fault) => Err(fault),
     }
 }

@@ -10,7 +10,7 @@ use Rattle.gaz_outside.specs.declared.station.Area.{Area}
 use Rattle.gaz_outside.specs.Station.{StationView}
 use Rattle.gaz_plain.specs.Gazetteer.{Gazetteer, empty, after_line}
 use Rattle.gaz_plain.specs.Load.{Files, load, day}
-use Rattle.gaz_open.specs.Content.{Mirrors}
+use Rattle.gaz_rows.specs.Content.{Mirrors}
 use Rattle.gaz_words.specs.Grammar.{request_in}
 use Rattle.gaz_reply.specs.Reply.{acks}
 use Rattle.gaz_turns.specs.Turns.{Turn, Verdict, plain, memory}

@@ -4,8 +4,9 @@ use Rattle.std.proofs.Transfers.{drop-appended}
 use Rattle.gaz_outside.specs.declared.station.Area.{Area}
 use Rattle.gaz_outside.specs.Station.{StationView, Outcome, Leaves}
 use Rattle.gaz_plain.specs.Gazetteer.{Gazetteer, empty}
-use Rattle.gaz_open.specs.Content.{Mirrors, SameMirror}
-use Rattle.gaz_open.specs.Holds.{AllHold}
+use Rattle.gaz_rows.specs.Holds.{SameMirror}
+use Rattle.gaz_rows.specs.Content.{Mirrors}
+use Rattle.gaz_rows.specs.Holds.{AllHold}
 use Rattle.gaz_turns.specs.Head.{Course, Keeps, IsStop, last_of}
 use Rattle.gaz_open.proofs.Mirrored.{one_mirror, same_areas, empty_mirror}
 use Rattle.gaz_turns.specs.Life.{Run, Life, last_run, more_runs, first_run, printed_since, FollowOn, Follows, BeginsEmpty, AllKeep, IsAcked, GoesOn, course_of}

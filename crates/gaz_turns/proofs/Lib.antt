@@ -8,3 +8,4 @@ pub mod Tallies
 pub mod Told
 pub mod Underway
 pub mod Follow
+pub mod Kept

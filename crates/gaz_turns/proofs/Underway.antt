@@ -10,8 +10,8 @@ use Rattle.gaz_outside.specs.Station.{StationView, Outcome, Leaves, LeavesOnly}
 use Rattle.gaz_outside.proofs.Runs.{begins, goes_far, leaves_weaker}
 use Rattle.gaz_plain.specs.Gazetteer.{Gazetteer}
 use Rattle.gaz_reply.specs.Reply.{acks, reply_text, is_change}
-use Rattle.gaz_open.specs.Content.{Mirrors}
-use Rattle.gaz_open.specs.Holds.{AllHold, IsStill}
+use Rattle.gaz_rows.specs.Content.{Mirrors}
+use Rattle.gaz_rows.specs.Holds.{AllHold, IsStill}
 use Rattle.gaz_open.proofs.Mirrored.{mirrored_is}
 use Rattle.gaz_turns.specs.Head.{Course, IsFront, HoldsAcked, IsStop, IsStored, Keeps}
 use Rattle.gaz_turns.specs.Turns.{State, Turn, answer_at, replies, gazetteers, state_after, after}

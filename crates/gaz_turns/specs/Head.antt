@@ -5,8 +5,8 @@ use Rattle.gaz_outside.specs.declared.station.Area.{Area}
 use Rattle.gaz_outside.specs.Station.{StationView, Outcome, Leaves, LeavesOnly}
 use Rattle.gaz_plain.specs.Gazetteer.{Gazetteer}
 use Rattle.gaz_reply.specs.Reply.{acks}
-use Rattle.gaz_open.specs.Content.{Mirrors}
-use Rattle.gaz_open.specs.Holds.{AllHold, IsFound}
+use Rattle.gaz_rows.specs.Content.{Mirrors}
+use Rattle.gaz_rows.specs.Holds.{AllHold, IsFound}
 use Rattle.gaz_turns.specs.Turns.{State, Turn, replies, after, state_after}
 
 -- the line has such a byte

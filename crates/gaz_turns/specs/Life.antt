@@ -6,7 +6,7 @@ use Rattle.gaz_outside.specs.Station.{StationView, Outcome}
 use Rattle.gaz_plain.specs.Gazetteer.{Gazetteer}
 use Rattle.gaz_reply.specs.Reply.{acks}
 use Rattle.gaz_turns.specs.Turns.{Turn}
-use Rattle.gaz_open.specs.Holds.{AllHold}
+use Rattle.gaz_rows.specs.Holds.{AllHold}
 use Rattle.gaz_turns.specs.Head.{Course, after_changes}
 use Rattle.gaz_turns.specs.Steps.{RunKeeps}
 

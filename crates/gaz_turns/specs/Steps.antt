@@ -1,12 +1,29 @@
 -- What one request does to a device, and what a run of requests does.
-use Rattle.std.specs.Prelude.{◌≡◌, ◌⊎◌, ℕ, false, List, [], ◌∷◌, ◌++◌, map, Result, OnOk, IsTrue}
+use Rattle.std.specs.Prelude.{◌≡◌, ◌⊎◌, ◌≤◌, ℕ, false, List, [], ◌∷◌, ◌++◌, map, Result, OnOk, IsTrue}
+use Rattle.gaz_outside.specs.declared.station.Area.{Area}
 use Rattle.gaz_outside.specs.Outside.{ShelfView, Prints}
-use Rattle.gaz_outside.specs.Station.{StationView, Outcome, LeavesOnly, HasFrontOf, AreasStay}
+use Rattle.gaz_outside.specs.Station.{StationView, Outcome, LeavesOnly, LeavesAreas, LeavesFront, HasFrontOf, AreaStays}
 use Rattle.gaz_reply.specs.Reply.{reply_text, is_change}
-use Rattle.gaz_open.specs.Content.{Mirrors}
-use Rattle.gaz_open.specs.Holds.{AllHold}
+use Rattle.gaz_rows.specs.Content.{Mirrors}
+use Rattle.gaz_rows.specs.Holds.{AllHold}
 use Rattle.gaz_turns.specs.Turns.{State, Turn, Answer, HaveFiles, IsLegal, replies}
 use Rattle.gaz_turns.specs.Head.{IsFront, Keeps}
+
+-- Time goes on: a stop since an earlier moment might have left what it might have left before, or what has P.
+pub record Passes (old new : StationView) (P : Outcome → Type 0) : Type 0 where
+  pub later : old.moment ≤ new.moment
+  pub nothing_else : (t : ℕ) (c : Outcome) → t ≤ old.moment → new.left_since t c → old.left_since t c ⊎ P c
+
+-- Where bytes are told, a stop at any moment leaves of the areas what it might have left before, and behind the text that was printed a
+-- front of this piece.
+abbrev pub IsCutIn : List ℕ → StationView → StationView → Type 0
+IsCutIn piece old new = IsTrue old.is_told → Passes old new (LeavesFront piece old old)
+
+-- Where bytes are told, every area stays, and a stop at no moment leaves more of the areas than before. No piece of them is written.
+pub record AreasKept (old new : StationView) : Type 0 where
+  pub each : IsTrue old.is_told → (a : Area) → AreaStays old new a
+  pub time : IsTrue old.is_told → Passes old new (LeavesAreas old)
+  pub unwritten : new.writes ≡ old.writes
 
 -- The old gazetteer with nothing more printed, or the new one with a front of the reply.
 abbrev pub IsBeforeOrAfter : State → Answer → StationView → Outcome → Type 0
@@ -24,7 +41,7 @@ pub record IsGiven {A E : Type 0} (answer : Answer) (state : State) (old new : S
   -- So it is for the areas as they read.
   pub mirrors : OnOk result (IsTrue old.is_told → Mirrors old.bytes state.gaz → Mirrors new.bytes answer.state.gaz)
   -- Where no change is told, no area is written.
-  pub stays : is_change answer.reply ≡ false → AreasStay old new
+  pub stays : is_change answer.reply ≡ false → AreasKept old new
 
 -- Some turns answer the first lines, each with the files that the shelf had then, and with them the run keeps the gazetteer.
 pub record RunKeeps (shelf shelf_now : ShelfView) (lines : List (List ℕ)) (first : State) (entry exit : StationView) (status : ℕ) : Type 0 where

@@ -12,6 +12,7 @@ use Rattle.gaz_pick.specs.Asked.{NameAsked, absent, equals, starts}
 use Rattle.gaz_plain.specs.Search.{search_of}
 use Rattle.gaz_plain.specs.Kin.{children_of, hierarchy_of}
 use Rattle.gaz_plain.specs.Load.{Files, load, day, load_files, day_files, in_sequence}
+pub use Rattle.gaz_change.specs.Change.{IsReached}
 use Rattle.gaz_words.specs.declared.request.BadRequest.{BadRequest}
 use Rattle.gaz_words.specs.Grammar.{RequestAsked, asks_load, asks_day, asks_get, asks_search, asks_children, asks_chain, asks_admin, request_in, bad_word}
 use Rattle.gaz_reply.specs.declared.reply.Done.{Done}
@@ -95,11 +96,6 @@ opens state (Ok (asks_children id max)) = []
 opens state (Ok (asks_chain id)) = []
 opens state (Ok (asks_admin code)) = []
 opens state (Err bad) = []
-
--- the file is one of these, and none before it is absent
-abbrev pub IsReached : Files → FileName → List FileName → Type 0
-IsReached files file [] = ⊥
-IsReached files file (name ∷ names) = (name ≡ file) ⊎ (IsSome (files (file_text name)) × IsReached files file names)
 
 -- a request that reads files
 abbrev pub ReadsFiles : Result RequestAsked BadRequest → Type 0

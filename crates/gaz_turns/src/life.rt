@@ -1,7 +1,7 @@
 //! The law of lives. To call it is to know it; it does nothing.
 ghost use Rattle.std.specs.Prelude.{IsTrue};
 ghost use Rattle.gaz_plain.specs.Gazetteer.{Gazetteer, empty};
-ghost use Rattle.gaz_open.specs.Holds.{AllHold};
+ghost use Rattle.gaz_rows.specs.Holds.{AllHold};
 ghost use Rattle.gaz_turns.specs.Steps.{RunKeeps};
 ghost use Rattle.gaz_turns.specs.Life.{Run, KeepsAny, Life, Follows, BeginsEmpty, AllKeep, GoesOn};
 

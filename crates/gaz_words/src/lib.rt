@@ -1,5 +1,5 @@
 //! The request language: `read_request` answers what a request line asks, or the first bad word of it.
-//! Both are exactly those of the grammar in specs/, Grammar.antt and, for a search and for children, Search.antt and Children.antt. A verb whose request isn't built yet is an unknown verb.
+//! Both are exactly those of the grammar in specs/, Grammar.antt and, for a search and for children, Search.antt and Children.antt. A verb that isn't of the grammar is an unknown verb.
 //! No call takes memory.
 #![tactic(auto)]
 

@@ -63,30 +63,33 @@ returns-in-Ok-End-clause-few g c told gaz stands left comes few =
     let i = c.loop-turn.invariant in
     let v = g.P.Pages.view in
     let p = i.passed told gaz stands left comes few in
-    let count = p.count in
-    few_now (each_of c.args.scan.now c.args.store.now.root) c.loop-turn._turn (length left) (v c.args.store.now.pages).reads (v c.loop-turn.store.pages).reads (v c.look_linked.new.store.pages).reads i.asked.counts.reads
+    let now = stands_same [] gaz (v c.args.store.now.pages) (v c.loop-turn.store.pages) c.args.store.now.root c.loop-turn.store.root (i.asked.same told) i.root stands in
+    few_now (each_of c.args.scan.now c.args.store.now.root) (2 * (tree_of c.args.scan.now).height) c.loop-turn._turn (length left) (v c.args.store.now.pages).reads (v c.loop-turn.store.pages).reads (v c.look_linked.new.store.pages).reads p.rest i.asked.counts.reads
     (subst (λ each. (v c.look_linked.new.store.pages).reads ≤ (v c.loop-turn.store.pages).reads + each) (each_same c.loop-turn.scan c.args.scan.now c.loop-turn.store.root c.args.store.now.root i.tree i.root) c.in-Ok-End.ensures.asked.counts.reads)
-    (omega (arith, count))
+    (λ none. subst (λ tree. (v c.look_linked.new.store.pages).reads ≤ (v c.loop-turn.store.pages).reads + 2 * tree.height) i.tree (c.in-Ok-End.ensures.ends (subst IsTrue (sym i.asked.counts.told) told) gaz now p.rest p.comes none))
+    p.count
 
 pub returns-in-Ok-Fits-clause-few : goal.returns-in-Ok-Fits-clause-few
 returns-in-Ok-Fits-clause-few g c told gaz stands left comes few =
     let i = c.loop-turn.invariant in
     let v = g.P.Pages.view in
     let p = i.passed told gaz stands left comes few in
-    let count = p.count in
-    few_now (each_of c.args.scan.now c.args.store.now.root) c.loop-turn._turn (length left) (v c.args.store.now.pages).reads (v c.loop-turn.store.pages).reads (v c.look_linked.new.store.pages).reads i.asked.counts.reads
+    let now = stands_same [] gaz (v c.args.store.now.pages) (v c.loop-turn.store.pages) c.args.store.now.root c.loop-turn.store.root (i.asked.same told) i.root stands in
+    few_now (each_of c.args.scan.now c.args.store.now.root) (2 * (tree_of c.args.scan.now).height) c.loop-turn._turn (length left) (v c.args.store.now.pages).reads (v c.loop-turn.store.pages).reads (v c.look_linked.new.store.pages).reads p.rest i.asked.counts.reads
     (subst (λ each. (v c.look_linked.new.store.pages).reads ≤ (v c.loop-turn.store.pages).reads + each) (each_same c.loop-turn.scan c.args.scan.now c.loop-turn.store.root c.args.store.now.root i.tree i.root) c.in-Ok-Fits.ensures.asked.counts.reads)
-    (omega (arith, count))
+    (λ none. subst (λ tree. (v c.look_linked.new.store.pages).reads ≤ (v c.loop-turn.store.pages).reads + 2 * tree.height) i.tree (c.in-Ok-Fits.ensures.ends (subst IsTrue (sym i.asked.counts.told) told) gaz now p.rest p.comes none))
+    p.count
 
 pub returns-in-Err-clause-few : goal.returns-in-Err-clause-few
 returns-in-Err-clause-few g c told gaz stands left comes few =
     let i = c.loop-turn.invariant in
     let v = g.P.Pages.view in
     let p = i.passed told gaz stands left comes few in
-    let count = p.count in
-    few_now (each_of c.args.scan.now c.args.store.now.root) c.loop-turn._turn (length left) (v c.args.store.now.pages).reads (v c.loop-turn.store.pages).reads (v c.look_linked.new.store.pages).reads i.asked.counts.reads
+    let now = stands_same [] gaz (v c.args.store.now.pages) (v c.loop-turn.store.pages) c.args.store.now.root c.loop-turn.store.root (i.asked.same told) i.root stands in
+    few_now (each_of c.args.scan.now c.args.store.now.root) (2 * (tree_of c.args.scan.now).height) c.loop-turn._turn (length left) (v c.args.store.now.pages).reads (v c.loop-turn.store.pages).reads (v c.look_linked.new.store.pages).reads p.rest i.asked.counts.reads
     (subst (λ each. (v c.look_linked.new.store.pages).reads ≤ (v c.loop-turn.store.pages).reads + each) (each_same c.loop-turn.scan c.args.scan.now c.loop-turn.store.root c.args.store.now.root i.tree i.root) c.in-Err.ensures.asked.counts.reads)
-    (omega (arith, count))
+    (λ none. subst (λ tree. (v c.look_linked.new.store.pages).reads ≤ (v c.loop-turn.store.pages).reads + 2 * tree.height) i.tree (c.in-Err.ensures.ends (subst IsTrue (sym i.asked.counts.told) told) gaz now p.rest p.comes none))
+    p.count
 
 -- more came than there may be
 pub returns-clause-damaged : goal.returns-clause-damaged

@@ -2,7 +2,7 @@ use Rattle.std.proofs.Common.{[], ◌∙◌, sym, subst}
 use Rattle.std.specs.Prelude.{IsTrue}
 use Rattle.gaz_rows.proofs.SteppedOver.{stands_same}
 use Rattle.gaz_kin.specs.declared.ids.Part.TheVariants.{Last}
-use Rattle.gaz_kin.proofs.Tested.{next_same}
+use Rattle.gaz_kin.proofs.Tested.{next_same, no_next}
 use Rattle.gaz_kin.proofs.above.look_above.Goals as goal
 
 pub returns-in-Ok-None-clause-looks : goal.returns-in-Ok-None-clause-looks
@@ -37,3 +37,15 @@ returns-in-Err-fits_above-clause-looks g c told gaz stands left comes =
     let told_mid = subst IsTrue (sym c.in-Ok-Some.ensures.asked.counts.told) told in
     let mid = stands_same [] gaz (v c.args.store.now.pages) (v c.next_id.new.store.pages) c.args.store.now.root c.next_id.new.store.root (c.in-Ok-Some.ensures.asked.same told) c.in-Ok-Some.ensures.root stands in
     c.in-Err-fits_above.ensures.damaged told_mid gaz mid
+
+pub returns-in-Ok-true-clause-ends : goal.returns-in-Ok-true-clause-ends
+returns-in-Ok-true-clause-ends g c told gaz stands left comes none =
+    absurd (no_next Last (g.P.Pages.view c.next_id.new.store.pages).page c.next_id.new.scan left c.in-Ok-Some.id none (rw c.in-Ok-Some.field-0-is at (c.in-Ok-Some.ensures.gives told left comes)))
+
+pub returns-in-Ok-false-clause-ends : goal.returns-in-Ok-false-clause-ends
+returns-in-Ok-false-clause-ends g c told gaz stands left comes none =
+    absurd (no_next Last (g.P.Pages.view c.next_id.new.store.pages).page c.next_id.new.scan left c.in-Ok-Some.id none (rw c.in-Ok-Some.field-0-is at (c.in-Ok-Some.ensures.gives told left comes)))
+
+pub returns-in-Err-fits_above-clause-ends : goal.returns-in-Err-fits_above-clause-ends
+returns-in-Err-fits_above-clause-ends g c told gaz stands left comes none =
+    absurd (no_next Last (g.P.Pages.view c.next_id.new.store.pages).page c.next_id.new.scan left c.in-Ok-Some.id none (rw c.in-Ok-Some.field-0-is at (c.in-Ok-Some.ensures.gives told left comes)))

@@ -1,4 +1,8 @@
+use Rattle.std.proofs.Common.{length, ap}
 use Rattle.gaz_plain.proofs.Offering.{sees}
+use Rattle.gaz_scan.specs.Scan.{tree_of}
+use Rattle.gaz_kin.specs.Reads.{most_sought, rows_of_pairs, rows_named}
+use Rattle.gaz_kin.proofs.Summed.{of_countries, read_named}
 use Rattle.gaz_kin.specs.Below.{is_named_by, is_named_among}
 use Rattle.gaz_kin.proofs.Answered.{if_err, comes_between}
 use Rattle.gaz_kin.proofs.Offered.{on_ok}
@@ -31,3 +35,15 @@ returns-clause-damaged g c =
     (are_countries gaz v root stands)
     (countries_within gaz v root stands))
     c.offer_countries.ensures.damaged
+
+pub returns-clause-few : goal.returns-clause-few
+returns-clause-few g c told gaz stands =
+    let v = g.P.Pages.view c.args.store.now.pages in
+    let root = c.args.store.now.root in
+    let id = c.args.id in
+    let range = country_range gaz v root stands in
+    read_named root.height (tree_of c.scan-scan.result).height (length gaz.countries) root.counts.countries (most_sought gaz) (rows_of_pairs gaz id range) (rows_named gaz id) v.reads (g.P.Pages.view c.offer_countries.new.store.pages).reads
+    c.scan-scan.ensures.height stands.tree.shallow (ap (λ counts. counts.countries) stands.counts) (of_countries gaz id v root stands)
+    (c.offer_countries.ensures.few told gaz stands range
+    (comes_between v.page c.scan-scan.result stands.pairs c.country_key.result c.country_key-2.result _ _ c.country_key.ensures c.country_key-2.ensures (c.scan-scan.ensures.comes v.page stands.pairs stands.tree))
+    (are_countries gaz v root stands))

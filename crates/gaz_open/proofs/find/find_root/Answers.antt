@@ -2,7 +2,7 @@ use Rattle.std.proofs.Common.{◌≡◌, ◌≤◌, ◌∙◌, sym, ap, arith, l
 use Rattle.gaz_outside.specs.declared.station.Area.TheVariants.{Root}
 use Rattle.gaz_redo.proofs.Steps.{bytes_stay, still}
 use Rattle.gaz_redo.proofs.SlotReads.{more_stays}
-use Rattle.gaz_page.specs.Root.{root_in}
+use Rattle.gaz_page.specs.TreeRoot.{tree_root_at}
 use Rattle.gaz_open.proofs.Opened.{root_read}
 use Rattle.gaz_open.proofs.find.find_root.Goals as goal
 
@@ -50,7 +50,7 @@ returns-in-Some-clause-found g c told =
     let enough = c.if-size.false in
     let long : 4096 ≤ length (v0.bytes Root) = omega (arith, size, enough) in
     let there : 4096 ≤ length (v1.bytes Root) = omega (arith, long, ap length same) in
-    (long, ap root_in (sym same) ∙ root_read (v1.bytes Root) c.read_at.new.buf c.in_ok-read_at.field-0 full there (c.in_ok-read_at.ensures.count told1) (c.in_ok-read_at.ensures.read told1) ∙ sym c.read_plain_root.ensures.root ∙ c.in-Some.is)
+    (long, ap tree_root_at (sym same) ∙ root_read (v1.bytes Root) c.read_at.new.buf c.in_ok-read_at.field-0 full there (c.in_ok-read_at.ensures.count told1) (c.in_ok-read_at.ensures.read told1) ∙ sym c.read_root.ensures.root ∙ c.in-Some.is)
 
 pub returns-in-None-clause-found : goal.returns-in-None-clause-found
 returns-in-None-clause-found g c told =
@@ -63,4 +63,4 @@ returns-in-None-clause-found g c told =
     let enough = c.if-size.false in
     let long : 4096 ≤ length (v0.bytes Root) = omega (arith, size, enough) in
     let there : 4096 ≤ length (v1.bytes Root) = omega (arith, long, ap length same) in
-    (long, ap root_in (sym same) ∙ root_read (v1.bytes Root) c.read_at.new.buf c.in_ok-read_at.field-0 full there (c.in_ok-read_at.ensures.count told1) (c.in_ok-read_at.ensures.read told1) ∙ sym c.read_plain_root.ensures.root ∙ c.in-None.is)
+    (long, ap tree_root_at (sym same) ∙ root_read (v1.bytes Root) c.read_at.new.buf c.in_ok-read_at.field-0 full there (c.in_ok-read_at.ensures.count told1) (c.in_ok-read_at.ensures.read told1) ∙ sym c.read_root.ensures.root ∙ c.in-None.is)

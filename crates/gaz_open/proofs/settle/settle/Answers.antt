@@ -3,7 +3,7 @@ use Rattle.gaz_redo.specs.Recovered.{Tells, Means}
 use Rattle.gaz_redo.proofs.Steps.{still}
 use Rattle.gaz_open.specs.Opens.{HasNoLog}
 use Rattle.gaz_open.proofs.Opened.{settled_redone, same_form, same_slots}
-use Rattle.gaz_open.proofs.Opening.{opening_synced, opening_recovered}
+use Rattle.gaz_open.proofs.Settling.{opening_synced, opening_recovered}
 use Rattle.gaz_open.proofs.settle.settle.Goals as goal
 
 pub returns-in-Redone-clause-settled : goal.returns-in-Redone-clause-settled

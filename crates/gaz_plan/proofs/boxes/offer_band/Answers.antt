@@ -1,4 +1,4 @@
-use Rattle.std.proofs.Common.{◌≡◌, ℕ, [], sym, ap, subst, ◌∙◌, Some, None}
+use Rattle.std.proofs.Common.{◌≡◌, ℕ, [], sym, ap, subst, arith, ◌∙◌, Some, None}
 use Rattle.std.specs.Prelude.{◌||◌}
 use Rattle.gaz_pick.specs.Asked.{asked}
 use Rattle.gaz_box.specs.Edges.{spans_of}
@@ -12,6 +12,7 @@ use Rattle.gaz_plan.specs.Boxes.{is_in_span, is_in_band}
 use Rattle.gaz_plan.specs.Seen.{SeesMore}
 use Rattle.gaz_plan.proofs.Offering.{sees, sees_both}
 use Rattle.gaz_plan.proofs.Boxed.{one_span, only_span}
+use Rattle.gaz_plan.proofs.FewBands.{first_few, both_few}
 use Rattle.gaz_plan.proofs.boxes.offer_band.Goals as goal
 
 pub returns-in-Some-clause-more : goal.returns-in-Some-clause-more
@@ -54,3 +55,30 @@ returns-in-None-clause-more g c told gaz stands =
     let spans : spans_of e ≡ (first, None) = sym c.spans-second.ensures ∙ ap (λ s. (first, s)) c.in-None.is in
     sees gaz stands.is_gazetteer (asked c.args.query.now) c.args.best.now.keep (is_in_span c.args.band first) (is_in_band c.args.band e) c.args.best.now.pairs c.offer_span.new.best.pairs (c.in-Ok.ensures.more told gaz stands)
     (λ row at is_one inside. only_span c.args.band e first spans row inside)
+
+pub returns-in-Some-clause-reads : goal.returns-in-Some-clause-reads
+returns-in-Some-clause-reads g c told gaz stands =
+    let v = g.P.Pages.view in
+    let v0 = v c.args.store.now.pages in
+    let v1 = v c.offer_span.new.store.pages in
+    let first = c.spans-second.result.0 in
+    let second = c.in-Some.range in
+    let one = c.in-Ok.ensures in
+    let told1 = told_on v0 v1 _ one.asked told in
+    let stands1 = stands_same [] gaz v0 v1 c.args.store.now.root c.offer_span.new.store.root (one.asked.1.same told) one.root stands in
+    let few = both_few gaz c.args.band (edges_of c.args.edges.now) first second (sym c.spans-second.ensures ∙ ap (λ s. (first, s)) c.in-Some.is) in
+    let read = one.reads told gaz stands in
+    let more = c.offer_span-in-Some.ensures.reads told1 gaz stands1 in
+    omega (arith, few, read, more)
+
+pub returns-in-None-clause-reads : goal.returns-in-None-clause-reads
+returns-in-None-clause-reads g c told gaz stands =
+    let few = first_few gaz c.args.band (edges_of c.args.edges.now) c.spans-second.result (sym c.spans-second.ensures) in
+    let read = c.in-Ok.ensures.reads told gaz stands in
+    omega (arith, few, read)
+
+pub returns-in-Err-clause-reads : goal.returns-in-Err-clause-reads
+returns-in-Err-clause-reads g c told gaz stands =
+    let few = first_few gaz c.args.band (edges_of c.args.edges.now) c.spans-second.result (sym c.spans-second.ensures) in
+    let read = c.in-Err.ensures.reads told gaz stands in
+    omega (arith, few, read)

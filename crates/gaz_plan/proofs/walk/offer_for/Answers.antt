@@ -12,7 +12,7 @@ pub returns-in-Row-clause-more : goal.returns-in-Row-clause-more
 returns-in-Row-clause-more g c =
     let n = key_of c.args.found.now.0 in
     on_ok _ _ c.offer_at.result (λ over told gaz stands found tag.
-    subst (λ (way : Way). SeesMore gaz (asked c.args.query.now) c.args.best.now.keep (stands_for gaz (asked c.args.query.now) way n) c.args.best.now.pairs c.offer_at.new.best.pairs) (sym c.in-Row.is)
+    subst (λ (way : Way). SeesMore gaz (asked c.args.query.now) c.args.best.now.keep (stands_for (asked c.args.query.now) way n) c.args.best.now.pairs c.offer_at.new.best.pairs) (sym c.in-Row.is)
     (over n told gaz stands found (tag ∙ ap tag_by c.in-Row.is)))
     c.offer_at.ensures.more
 
@@ -24,22 +24,10 @@ pub returns-in-Lying-clause-more : goal.returns-in-Lying-clause-more
 returns-in-Lying-clause-more g c =
     let n = key_of c.args.found.now.0 in
     on_ok _ _ c.offer_row.result (λ over told gaz stands found tag.
-    subst (λ (way : Way). SeesMore gaz (asked c.args.query.now) c.args.best.now.keep (stands_for gaz (asked c.args.query.now) way n) c.args.best.now.pairs c.offer_row.new.best.pairs) (sym c.in-Lying.is)
+    subst (λ (way : Way). SeesMore gaz (asked c.args.query.now) c.args.best.now.keep (stands_for (asked c.args.query.now) way n) c.args.best.now.pairs c.offer_row.new.best.pairs) (sym c.in-Lying.is)
     (subst (λ (id : ℕ). SeesMore gaz (asked c.args.query.now) c.args.best.now.keep (is_itself (asked c.args.query.now) id) c.args.best.now.pairs c.offer_row.new.best.pairs) c.number_at.ensures (over told gaz stands)))
     c.offer_row.ensures.more
 
 pub returns-in-Lying-clause-damaged : goal.returns-in-Lying-clause-damaged
 returns-in-Lying-clause-damaged g c =
     if_err _ _ c.offer_row.result (λ fault over told gaz stands found tag. over told gaz stands) c.offer_row.ensures.damaged
-
-pub returns-in-Name-clause-more : goal.returns-in-Name-clause-more
-returns-in-Name-clause-more g c =
-    let n = key_of c.args.found.now.0 in
-    on_ok _ _ c.offer_name.result (λ over told gaz stands found tag.
-    subst (λ (way : Way). SeesMore gaz (asked c.args.query.now) c.args.best.now.keep (stands_for gaz (asked c.args.query.now) way n) c.args.best.now.pairs c.offer_name.new.best.pairs) (sym c.in-Name.is)
-    (over told gaz stands))
-    c.offer_name.ensures.more
-
-pub returns-in-Name-clause-damaged : goal.returns-in-Name-clause-damaged
-returns-in-Name-clause-damaged g c =
-    if_err _ _ c.offer_name.result (λ fault over told gaz stands found tag. over told gaz stands) c.offer_name.ensures.damaged

@@ -1,4 +1,4 @@
-use Rattle.std.proofs.Common.{[], refl, sym, subst}
+use Rattle.std.proofs.Common.{[], refl, sym, ap, subst, arith}
 use Rattle.std.specs.Prelude.{Contains}
 use Rattle.gaz_leaf.specs.Node.{Pair, key_of}
 use Rattle.gaz_scan.specs.Scan.{Comes}
@@ -58,3 +58,33 @@ pub returns-in-Err-offer_for-clause-asked : goal.returns-in-Err-offer_for-clause
 returns-in-Err-offer_for-clause-asked g c =
     let v = g.P.Pages.view in
     only_on (v c.args.store.now.pages) (v c.next.new.self.pages) (v c.offer_for.new.store.pages) tt _ (searched _ (v c.args.store.now.pages) (v c.next.new.self.pages) _ c.in-Ok-Some.ensures.asked) c.in-Err-offer_for.ensures.asked
+
+pub returns-in-Ok-None-clause-reads : goal.returns-in-Ok-None-clause-reads
+returns-in-Ok-None-clause-reads g c told gaz stands left comes are =
+    let shallow = comes.top.shallow in
+    let read = c.in-Ok-None.ensures.asked.counts.reads in
+    omega (arith, shallow, read)
+
+pub returns-in-Err-clause-reads : goal.returns-in-Err-clause-reads
+returns-in-Err-clause-reads g c told gaz stands left comes are =
+    let shallow = comes.top.shallow in
+    let read = c.in-Err.ensures.asked.counts.reads in
+    omega (arith, shallow, read)
+
+pub returns-in-Ok-clause-reads : goal.returns-in-Ok-clause-reads
+returns-in-Ok-clause-reads g c told gaz stands left comes are =
+    let shallow = comes.top.shallow in
+    let low = stands.tree.shallow in
+    let same = ap (λ root. root.height) c.in-Ok-Some.ensures.root in
+    let read = c.in-Ok-Some.ensures.asked.counts.reads in
+    let more = c.in-Ok.ensures.reads in
+    omega (arith, shallow, low, same, read, more)
+
+pub returns-in-Err-offer_for-clause-reads : goal.returns-in-Err-offer_for-clause-reads
+returns-in-Err-offer_for-clause-reads g c told gaz stands left comes are =
+    let shallow = comes.top.shallow in
+    let low = stands.tree.shallow in
+    let same = ap (λ root. root.height) c.in-Ok-Some.ensures.root in
+    let read = c.in-Ok-Some.ensures.asked.counts.reads in
+    let more = c.in-Err-offer_for.ensures.reads in
+    omega (arith, shallow, low, same, read, more)

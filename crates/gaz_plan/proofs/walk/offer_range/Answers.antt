@@ -34,3 +34,20 @@ returns-clause-damaged g c =
     over told gaz stands (between (key_of low) (key_of high) stands.pairs) (c.scan-scan.ensures.comes v.page stands.pairs stands.tree)
     (are_between gaz v root stands (tag_by c.args.way) low high low_is high_is c.requires.low c.requires.high))
     c.offer_scan.ensures.damaged
+
+pub returns-clause-reads : goal.returns-clause-reads
+returns-clause-reads g c told gaz stands =
+    let v = g.P.Pages.view c.args.store.now.pages in
+    let root = c.args.store.now.root in
+    let low = c.args.low.now in
+    let high = c.args.high.now in
+    let low_is : IsKey low = record { size = c.told-low; bytes = All-from_get_or (λ byte. byte < 256) low 0 (λ i below. let fit = c.fits-low i in omega (arith, fit)) } in
+    let high_is : IsKey high = record { size = c.told-high; bytes = All-from_get_or (λ byte. byte < 256) high 0 (λ i below. let fit = c.fits-high i in omega (arith, fit)) } in
+    c.offer_scan.ensures.reads told gaz stands (between (key_of low) (key_of high) stands.pairs) (c.scan-scan.ensures.comes v.page stands.pairs stands.tree)
+    (are_between gaz v root stands (tag_by c.args.way) low high low_is high_is c.requires.low c.requires.high)
+
+pub returns-clause-low : goal.returns-clause-low
+returns-clause-low g c = record { size = c.told-low; bytes = All-from_get_or (λ byte. byte < 256) c.args.low.now 0 (λ i below. let fit = c.fits-low i in omega (arith, fit)) }
+
+pub returns-clause-high : goal.returns-clause-high
+returns-clause-high g c = record { size = c.told-high; bytes = All-from_get_or (λ byte. byte < 256) c.args.high.now 0 (λ i below. let fit = c.fits-high i in omega (arith, fit)) }

@@ -1,4 +1,4 @@
-use Rattle.std.proofs.Common.{◌≡◌, length, Ok}
+use Rattle.std.proofs.Common.{◌≡◌, ◌≤◌, ◌+◌, ◌*◌, length, Ok}
 use Rattle.gaz_plain.specs.Gazetteer.{IsGazetteer}
 use Rattle.gaz_pick.specs.Asked.{asked}
 use Rattle.gaz_kin.specs.Over.{HasOnlyAsked}
@@ -13,6 +13,8 @@ invariant-loop-turn g l = record {
   keep : l.best.keep ≡ l.fn.best.keep;
   pending : OverTagged (g.P.Pages.view l.fn.store.pages) l.fn.store.root l.fn.scan (tag_by l.way)
       (λ gaz left. (is : IsGazetteer gaz) → ArePending gaz is (asked l.query) l.fn.best.keep l.way l._turn (g.P.Pages.view l.store.pages).page l.scan left l.fn.best.pairs l.best.pairs);
+  reads : OverTagged (g.P.Pages.view l.fn.store.pages) l.fn.store.root l.fn.scan (tag_by l.way)
+      (λ gaz left. (g.P.Pages.view l.store.pages).reads ≤ (g.P.Pages.view l.fn.store.pages).reads + 64 * l._turn);
   asked : HasOnlyAsked {T = Unit} (g.P.Pages.view l.fn.store.pages) (g.P.Pages.view l.store.pages) (Ok tt);
   size : length l.buf ≡ length l.fn.buf;
   root : l.store.root ≡ l.fn.store.root;

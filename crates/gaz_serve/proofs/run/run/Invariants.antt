@@ -3,7 +3,8 @@ use Rattle.std.specs.Prelude.{IfSome, []}
 use Rattle.gaz_outside.specs.Outside.{SameNumbers, NoneOpen, left_of}
 use Rattle.gaz_lines.specs.Cutter.{rest, pending, line_of, HasEnded, MayReadSource, line_limit_of, allowed_of}
 use Rattle.gaz_lines.proofs.Told.{Told}
-use Rattle.gaz_open.specs.Content.{Mirrors}
+use Rattle.gaz_plain.specs.Gazetteer.{Gazetteer}
+use Rattle.gaz_rows.specs.Content.{Mirrors}
 use Rattle.gaz_turns.specs.Turns.{State}
 use Rattle.gaz_serve.specs.Session.{IsOpen}
 use Rattle.gaz_serve.specs.Ran.{IsHeard}
@@ -16,6 +17,7 @@ abbrev pub invariant-loop-line : goal.invariant-loop-line
 invariant-loop-line g l = record {
   way : IsTrue (g.T.Station.view l.fn.station).is_told → IsTrue (g.F.Shelf.view l.fn.shelf).is_told → (first : State) → Mirrors (g.T.Station.view l.fn.station).bytes first.gaz
       → UnderWay first (left_of (g.S.Source.view l.fn.source)) (rest l.cutter (left_of (g.S.Source.view l.source))) (line_of l.cutter) (g.F.Shelf.view l.fn.shelf) (g.F.Shelf.view l.shelf) (g.T.Station.view l.fn.station) (g.T.Station.view l.station);
+  lasts : IsTrue (g.T.Station.view l.fn.station).is_told → (gaz : Gazetteer) → Mirrors (g.T.Station.view l.fn.station).bytes gaz → (now : Gazetteer) × Mirrors (g.T.Station.view l.station).bytes now;
   failures : Telling (g.F.Shelf.view l.fn.shelf) (g.F.Shelf.view l.shelf) (g.T.Station.view l.fn.station) (g.T.Station.view l.station);
   opened : IsOpen l.session (g.T.Station.view l.station);
   line_limit : line_limit_of l.cutter ≡ 4096;

@@ -1,49 +1,61 @@
-use Rattle.std.proofs.Common.{◌+◌, ◌-◌, [], ◌∷◌, length, map, take, drop, ap, sym, subst, ◌∙◌}
-use Rattle.std.specs.Prelude.{option_copied}
-use Rattle.gaz_outside.specs.Outside.{PrintsFront}
-use Rattle.gaz_outside.proofs.Runs.{areas_stay_on}
-use Rattle.gaz_reply.specs.Reply.{with_ends}
-use Rattle.gaz_reply.proofs.Cuts.{cut_in_first, cut_in_both, same_cut}
-use Rattle.gaz_reply.proofs.Pieces.{both, front, same_print}
-use Rattle.gaz_num.specs.declared.words.Table.TheVariants.{Rows}
-use Rattle.gaz_plain.specs.Gazetteer.{line_with}
-use Rattle.gaz_serve.specs.Tell.{rest_text}
-use Rattle.gaz_serve.proofs.Rows.{row_first}
+use Rattle.std.proofs.Common.{◌≡◌, ◌-◌, [], ◌∷◌, length, map, take, drop, sym, subst, ap, ◌∙◌}
+use Rattle.std.specs.Prelude.{Err}
+use Rattle.gaz_plain.specs.Kin.{rows_with}
+use Rattle.gaz_serve.specs.declared.step.EndFault.{EndFault}
+use Rattle.gaz_serve.specs.declared.step.EndFault.TheVariants.{Station}
+use Rattle.gaz_turns.proofs.Kept.{cut_in, kept_stay}
+use Rattle.gaz_serve.specs.Step.{IsSound}
+use Rattle.gaz_serve.proofs.Rows.{first_name, no_rows, row_found, row_unfound, sound_end, tells_none, tells_more, tells_unprinted, tells_unfound, tells_unread}
 use Rattle.gaz_serve.proofs.tell.+tell_rows.Goals as goal
 
-pub returns-in-Ok-clause-printed : goal.returns-in-Ok-clause-printed
-returns-in-Ok-clause-printed g t c =
+pub returns-in-empty-clause-tells : goal.returns-in-empty-clause-tells
+returns-in-empty-clause-tells g t c =
+    let names = g.I.OfRow.names in
+    tells_none c.args.told (λ gaz. rows_with gaz (map names c.args.rows.now)) (g.T.Station.view c.args.station.now) (g.T.Station.view c.tell_end.new.station) c.tell_end.result
+    c.tell_end.ensures.printed c.tell_end.ensures.moments c.tell_end.ensures.areas c.tell_end.ensures.sound (no_rows names c.args.rows.now c.in-empty.len_below)
+
+pub returns-in-Ok-clause-tells : goal.returns-in-Ok-clause-tells
+returns-in-Ok-clause-tells g t c =
     let names = g.I.OfRow.names in
     let all = c.args.rows.now in
-    same_print _ _ _ _ c.tell_rows.result
-    (row_first c.args.gaz.now names all c.first-item.result c.in-Some.line.now c.args.told c.in-len1-up.len_at_least (ap option_copied (sym c.in-Some.is) ∙ c.get.ensures ∙ ap (λ id. line_with Rows (id ∷ []) c.args.gaz.now) c.id.ensures ∙ ap (λ first. line_with Rows (names first ∷ []) c.args.gaz.now) c.first-item.is))
-    (both (with_ends (c.in-Some.line.now ∷ [])) (rest_text c.args.gaz.now (map names (take (length all - 1) (drop 1 all))) (c.args.told + 1)) _ _ _ c.tell_rows.result c.in-Ok.ensures.printed c.tell_rows.ensures.printed)
+    let rest = take (length all - 1) (drop 1 all) in
+    let v0 = g.T.Station.view c.args.station.now in
+    let v1 = g.T.Station.view c.get_row.new.station in
+    let v2 = g.T.Station.view c.write_row.new.station in
+    let ids_is = ap (λ i. i ∷ map names rest) (c.id.ensures ∙ ap names c.first-item.is) ∙ sym (first_name names all c.first-item.result c.in-len1-up.len_at_least) in
+    tells_more c.args.told (λ gaz. rows_with gaz (map names all)) v0 v1 c.get_row.ensures.leaves.reads (take c.in-Ok-Some.size c.get_row.new.buf) (λ gaz. rows_with gaz (map names rest))
+    (λ told gaz mirrors. row_found gaz c.id.result (map names rest) c.get_row.new.buf c.in-Ok-Some.size (rw c.in-Ok-Some.field-0-is at (c.in-Ok-Some.ensures.line told gaz mirrors)) ∙ ap (rows_with gaz) ids_is)
+    v2 c.write_row.ensures.told (kept_stay v1 v2 c.write_row.ensures.areas) (cut_in _ v1 v2 c.write_row.ensures.moments) (g.T.Station.view c.tell_rows.new.station) c.tell_rows.result c.in-Ok.ensures.printed c.tell_rows.ensures.tells
 
-pub returns-in-Ok-clause-moments : goal.returns-in-Ok-clause-moments
-returns-in-Ok-clause-moments g t c =
+pub returns-in-Err-write_row-clause-tells : goal.returns-in-Err-write_row-clause-tells
+returns-in-Err-write_row-clause-tells g t c =
     let names = g.I.OfRow.names in
     let all = c.args.rows.now in
-    same_cut _ _ _ _
-    (row_first c.args.gaz.now names all c.first-item.result c.in-Some.line.now c.args.told c.in-len1-up.len_at_least (ap option_copied (sym c.in-Some.is) ∙ c.get.ensures ∙ ap (λ id. line_with Rows (id ∷ []) c.args.gaz.now) c.id.ensures ∙ ap (λ first. line_with Rows (names first ∷ []) c.args.gaz.now) c.first-item.is))
-    (cut_in_both (with_ends (c.in-Some.line.now ∷ [])) (rest_text c.args.gaz.now (map names (take (length all - 1) (drop 1 all))) (c.args.told + 1)) _ _ _ c.in-Ok.ensures.told c.in-Ok.ensures.areas c.in-Ok.ensures.printed c.in-Ok.ensures.moments c.tell_rows.ensures.moments)
+    let rest = take (length all - 1) (drop 1 all) in
+    let v0 = g.T.Station.view c.args.station.now in
+    let v1 = g.T.Station.view c.get_row.new.station in
+    let v2 = g.T.Station.view c.write_row.new.station in
+    let ids_is = ap (λ i. i ∷ map names rest) (c.id.ensures ∙ ap names c.first-item.is) ∙ sym (first_name names all c.first-item.result c.in-len1-up.len_at_least) in
+    tells_unprinted c.args.told (λ gaz. rows_with gaz (map names all)) v0 v1 c.get_row.ensures.leaves.reads (take c.in-Ok-Some.size c.get_row.new.buf) (λ gaz. rows_with gaz (map names rest))
+    (λ told gaz mirrors. row_found gaz c.id.result (map names rest) c.get_row.new.buf c.in-Ok-Some.size (rw c.in-Ok-Some.field-0-is at (c.in-Ok-Some.ensures.line told gaz mirrors)) ∙ ap (rows_with gaz) ids_is)
+    v2 c.write_row.ensures.told (kept_stay v1 v2 c.write_row.ensures.areas) (cut_in _ v1 v2 c.write_row.ensures.moments) Station tt c.in-Err-write_row.ensures.printed
 
-pub returns-in-Ok-clause-areas : goal.returns-in-Ok-clause-areas
-returns-in-Ok-clause-areas g t c =
-    areas_stay_on (g.T.Station.view c.args.station.now) (g.T.Station.view c.write_row.new.station) (g.T.Station.view c.tell_rows.new.station) c.in-Ok.ensures.told
-    c.in-Ok.ensures.areas c.tell_rows.ensures.areas
-
-pub returns-in-Err-clause-printed : goal.returns-in-Err-clause-printed
-returns-in-Err-clause-printed g t c =
+pub returns-in-Ok-None-clause-tells : goal.returns-in-Ok-None-clause-tells
+returns-in-Ok-None-clause-tells g t c =
     let names = g.I.OfRow.names in
     let all = c.args.rows.now in
-    subst (λ text. PrintsFront text (g.T.Station.view c.args.station.now) (g.T.Station.view c.write_row.new.station))
-    (row_first c.args.gaz.now names all c.first-item.result c.in-Some.line.now c.args.told c.in-len1-up.len_at_least (ap option_copied (sym c.in-Some.is) ∙ c.get.ensures ∙ ap (λ id. line_with Rows (id ∷ []) c.args.gaz.now) c.id.ensures ∙ ap (λ first. line_with Rows (names first ∷ []) c.args.gaz.now) c.first-item.is))
-    (front (with_ends (c.in-Some.line.now ∷ [])) (rest_text c.args.gaz.now (map names (take (length all - 1) (drop 1 all))) (c.args.told + 1)) _ _ c.in-Err.ensures.printed)
+    let rest = take (length all - 1) (drop 1 all) in
+    let v0 = g.T.Station.view c.args.station.now in
+    let v1 = g.T.Station.view c.get_row.new.station in
+    let ids_is = ap (λ i. i ∷ map names rest) (c.id.ensures ∙ ap names c.first-item.is) ∙ sym (first_name names all c.first-item.result c.in-len1-up.len_at_least) in
+    tells_unfound c.args.told (λ gaz. rows_with gaz (map names all)) v0 v1 c.get_row.ensures.leaves.reads (g.T.Station.view c.tell_rows-in-Ok-None.new.station) c.tell_rows-in-Ok-None.result (λ gaz. rows_with gaz (map names rest))
+    (λ told gaz mirrors. row_unfound gaz c.id.result (map names rest) c.get_row.new.buf (rw c.in-Ok-None.field-0-is at (c.in-Ok-None.ensures.line told gaz mirrors)) ∙ ap (rows_with gaz) ids_is)
+    c.tell_rows-in-Ok-None.ensures.tells
 
-pub returns-in-Err-clause-moments : goal.returns-in-Err-clause-moments
-returns-in-Err-clause-moments g t c =
+pub returns-in-Err-clause-tells : goal.returns-in-Err-clause-tells
+returns-in-Err-clause-tells g t c =
     let names = g.I.OfRow.names in
-    let all = c.args.rows.now in
-    same_cut _ _ _ _
-    (row_first c.args.gaz.now names all c.first-item.result c.in-Some.line.now c.args.told c.in-len1-up.len_at_least (ap option_copied (sym c.in-Some.is) ∙ c.get.ensures ∙ ap (λ id. line_with Rows (id ∷ []) c.args.gaz.now) c.id.ensures ∙ ap (λ first. line_with Rows (names first ∷ []) c.args.gaz.now) c.first-item.is))
-    (cut_in_first (with_ends (c.in-Some.line.now ∷ [])) (rest_text c.args.gaz.now (map names (take (length all - 1) (drop 1 all))) (c.args.told + 1)) _ _ c.in-Err.ensures.moments)
+    let v0 = g.T.Station.view c.args.station.now in
+    let v1 = g.T.Station.view c.get_row.new.station in
+    tells_unread c.args.told (λ gaz. rows_with gaz (map names c.args.rows.now)) v0 v1 c.get_row.ensures.leaves.reads c.end_of.result
+    (λ told gaz mirrors. subst (λ (e : EndFault). IsSound {A = Unit {0}} (Err e)) (sym c.end_of.ensures) (sound_end c.in-Err.fault (c.in-Err.ensures.damaged told gaz mirrors)))

@@ -1,6 +1,6 @@
 use Rattle.std.proofs.Common.{◌≡◌, ℕ, Bool, IsTrue, refl, sym, subst, arith, inl, inr, ◌∙◌}
 use Rattle.gaz_outside.specs.Outside.{RisesOnce, left_of}
-use Rattle.gaz_open.specs.Holds.{AllHold}
+use Rattle.gaz_rows.specs.Holds.{AllHold}
 use Rattle.gaz_turns.proofs.Told.{mirrors_now, same_printed}
 use Rattle.gaz_serve.specs.Ran.{IsUnopened}
 use Rattle.gaz_serve.proofs.Answered.{answered, run_opened, stops_opened, exit_opened, with_unopened, opened_status}
@@ -52,7 +52,7 @@ returns-in-Ok-start g c =
     let others = with_unopened c.run.result e.others in
     let faults = c.in-Ok-start.ensures.cause in
     let opening = s.opening in
-    let fresh = is_fresh c.args.only_empty old mid c.in-Ok-start.session.lines opening.counts.told c.in-Ok-start.ensures.open.mirrors (λ told gaz mirrors. mirrors_now mid gaz (λ a. g.met.T.Station.may_stay c.start.new.station a (subst (λ (b : Bool). IsTrue b) (sym opening.counts.told) told)) (c.in-Ok-start.ensures.holds told gaz mirrors)) (sym c.is_in_the_way.ensures ∙ c.if-is_in_the_way.false) in
+    let fresh = is_fresh c.args.only_empty old mid c.in-Ok-start.session.root opening.counts.told c.in-Ok-start.ensures.open.fits (λ told gaz mirrors. mirrors_now mid gaz (λ a. g.met.T.Station.may_stay c.start.new.station a (subst (λ (b : Bool). IsTrue b) (sym opening.counts.told) told)) (c.in-Ok-start.ensures.holds told gaz mirrors)) (sym c.is_in_the_way.ensures ∙ c.if-is_in_the_way.false) in
     let failed : c.run.result ≡ 3 → RisesOnce old.faults new.faults = λ is. subst (λ (n : ℕ). RisesOnce n new.faults) faults (e.station is) in
     inl ((
       record {
@@ -66,7 +66,9 @@ returns-in-Ok-start g c =
             (inr (exit_opened first _ _ shelf shelf_now old mid new c.run.result opening holds run e.told))
             failed e.source others;
         failures = tells_from shelf shelf_now old mid new c.run.result (same_printed old mid opening.counts.told opening.printed) e.failures;
-        none = λ is. opened_status c.run.result e.others (inr is);
+        none = λ six told gaz mirrors.
+            let here = subst (λ (b : Bool). IsTrue b) (sym opening.counts.told) told in
+            e.damaged six here gaz (mirrors_now mid gaz (λ a. g.met.T.Station.may_stay c.start.new.station a here) (c.in-Ok-start.ensures.holds told gaz mirrors));
         unopened = λ is. opened_status c.run.result e.others is;
         emptied = e.emptied;
         past = e.past;
@@ -87,7 +89,7 @@ pub returns-then-is_in_the_way : goal.returns-then-is_in_the_way
 returns-then-is_in_the_way g c =
     let r = c.refuse_trial.ensures in
     let opened = c.in-Ok-start.ensures in
-    inr (refused c.args.only_empty (g.T.Station.view c.args.station.now) (g.T.Station.view c.start.new.station) (g.T.Station.view c.refuse_trial.new.station) c.in-Ok-start.session.lines c.refuse_trial.result
-    c.start.ensures.opening opened.open.mirrors opened.holds
+    inr (refused c.args.only_empty (g.T.Station.view c.args.station.now) (g.T.Station.view c.start.new.station) (g.T.Station.view c.refuse_trial.new.station) c.in-Ok-start.session.root c.refuse_trial.result
+    c.start.ensures.opening opened.open.fits opened.holds
     (λ told a. g.met.T.Station.may_stay c.args.station.now a told) (λ told a. g.met.T.Station.may_stay c.start.new.station a told)
     opened.cause r.ends r.appends r.told r.failed r.kept (sym c.is_in_the_way.ensures ∙ c.if-is_in_the_way.true))

@@ -1,28 +1,33 @@
-use Rattle.std.proofs.Common.{ap, sym, subst, ◌∙◌}
-use Rattle.gaz_plain.specs.Kin.{hierarchy_of}
-use Rattle.gaz_reply.specs.Reply.{rows}
-use Rattle.gaz_serve.specs.Session.{state_of}
-use Rattle.gaz_serve.specs.Step.{Replies}
-use Rattle.gaz_serve.proofs.Fitting.{open_still}
-use Rattle.gaz_serve.proofs.Loaded.{refused_given, lines_given}
+use Rattle.std.proofs.Common.{ℕ, List, ◌≡◌, ◌∷◌, [], ◌∙◌, map, sym, subst, ap, take, reverse, inl, inr, Ok, Err}
+use Rattle.std.specs.Prelude.{is_some}
+use Rattle.gaz_plain.specs.Gazetteer.{Gazetteer}
+use Rattle.gaz_serve.specs.declared.step.EndFault.{EndFault}
+use Rattle.gaz_serve.specs.Step.{IsSound}
+use Rattle.gaz_plain.specs.Kin.{rows_with, hierarchy_of}
+use Rattle.gaz_serve.proofs.Rows.{rows_named, same_ids, sound_end}
+use Rattle.gaz_serve.proofs.Meeting.{tells_unloaded, tells_rest, tells_unfound}
 use Rattle.gaz_serve.proofs.session.Session.tell_chain.Goals as goal
 
-pub returns-in-None-clause-given : goal.returns-in-None-clause-given
-returns-in-None-clause-given g c =
-    refused_given (state_of c.args.self.now) (hierarchy_of (state_of c.args.self.now).gaz c.args.id) (g.T.Station.view c.args.station.now) (g.T.Station.view c.write_refusal.new.station) c.write_refusal.result (λ o told left. g.met.T.Station.only_now c.args.station.now o told left)
-    (ap (λ session. session.lines.date) (sym c.self.view_is) ∙ sym c.date.ensures ∙ c.in-None.is)
-    (record { printed = c.write_refusal.ensures.printed; moments = c.write_refusal.ensures.moments; areas = c.write_refusal.ensures.areas })
+pub returns-then-is_none-clause-tells : goal.returns-then-is_none-clause-tells
+returns-then-is_none-clause-tells g c =
+    tells_unloaded (λ gaz. hierarchy_of gaz c.args.id) c.args.self.now.root (g.T.Station.view c.args.station.now) c.requires.«open».fits
+    (ap (λ session. is_some session.root) (sym c.self.view_is) ∙ ap is_some (sym c.root.ensures.root) ∙ c.if-is_none.ensures) (g.T.Station.view c.refuse.new.station) c.refuse.result c.refuse.ensures.replies c.refuse.ensures.sound
 
-pub returns-in-Some-clause-given : goal.returns-in-Some-clause-given
-returns-in-Some-clause-given g c =
-    lines_given (state_of c.args.self.now) (hierarchy_of (state_of c.args.self.now).gaz c.args.id) (g.T.Station.view c.args.station.now) (g.T.Station.view c.tell_chain.new.station) c.tell_chain.result (λ o told left. g.met.T.Station.only_now c.args.station.now o told left)
-    c.in-Some.field-0 (ap (λ session. session.lines.date) (sym c.self.view_is) ∙ sym c.date.ensures ∙ c.in-Some.is)
-    (subst (λ session. Replies (rows (hierarchy_of session.lines c.args.id)) (g.T.Station.view c.args.station.now) (g.T.Station.view c.tell_chain.new.station) c.tell_chain.result) c.self.view_is c.tell_chain.ensures.replies)
+pub returns-in-Ok-clause-tells : goal.returns-in-Ok-clause-tells
+returns-in-Ok-clause-tells g c =
+    let lines = λ (gaz : Gazetteer). hierarchy_of gaz c.args.id in
+    let v0 = g.T.Station.view c.args.station.now in
+    let v1 = g.T.Station.view c.chain.new.station in
+    let some = ap (λ session. is_some session.root) (sym c.self.view_is) ∙ ap is_some (sym c.root.ensures.root) ∙ c.if-is_none.ensures in
+    tells_rest lines c.args.self.now.root v0 c.requires.«open».fits some v1 c.chain.ensures.leaves.reads _
+    (λ told gaz mirrors. ap (rows_with gaz) (same_ids c.reverse.new.self ∙ c.reverse.ensures.after ∙ ap reverse (c.in-Ok.ensures.chain told gaz mirrors)))
+    (g.T.Station.view c.tell_rows.new.station) c.tell_rows.result c.tell_rows.ensures.tells
 
-pub returns-in-None-clause-open : goal.returns-in-None-clause-open
-returns-in-None-clause-open g c opened = open_still _ (g.T.Station.view c.args.station.now) (g.T.Station.view c.write_refusal.new.station) c.write_refusal.ensures.told c.write_refusal.ensures.areas opened
-
-pub returns-in-Some-clause-open : goal.returns-in-Some-clause-open
-returns-in-Some-clause-open g c opened =
-    open_still _ (g.T.Station.view c.args.station.now) (g.T.Station.view c.tell_chain.new.station) c.tell_chain.ensures.reports.told c.tell_chain.ensures.replies.areas
-    opened
+pub returns-in-Err-clause-tells : goal.returns-in-Err-clause-tells
+returns-in-Err-clause-tells g c =
+    let lines = λ (gaz : Gazetteer). hierarchy_of gaz c.args.id in
+    let v0 = g.T.Station.view c.args.station.now in
+    let v1 = g.T.Station.view c.chain.new.station in
+    let some = ap (λ session. is_some session.root) (sym c.self.view_is) ∙ ap is_some (sym c.root.ensures.root) ∙ c.if-is_none.ensures in
+    tells_unfound lines c.args.self.now.root v0 c.requires.«open».fits some v1 c.chain.ensures.leaves.reads c.end_of.result
+    (λ told gaz mirrors. subst (λ (e : EndFault). IsSound {A = Unit {0}} (Err e)) (sym c.end_of.ensures) (sound_end c.in-Err.fault (c.in-Err.ensures.damaged told gaz mirrors)))

@@ -1,30 +1,36 @@
-use Rattle.std.proofs.Common.{ℕ, List, ap, sym, subst, ◌∙◌}
-use Rattle.std.specs.Prelude.{option_to_list}
+use Rattle.std.proofs.Common.{ℕ, List, ◌≡◌, ◌∷◌, [], ◌∙◌, sym, subst, ap, take, Ok, Err}
+use Rattle.std.specs.Prelude.{is_some, option_to_list}
 use Rattle.gaz_num.specs.declared.words.Table.TheVariants.{Codes}
-use Rattle.gaz_plain.specs.Gazetteer.{line_with}
-use Rattle.gaz_reply.specs.Reply.{rows}
-use Rattle.gaz_serve.specs.Session.{state_of}
-use Rattle.gaz_serve.specs.Step.{Replies}
-use Rattle.gaz_serve.proofs.Fitting.{open_still}
-use Rattle.gaz_serve.proofs.Loaded.{refused_given, lines_given}
+use Rattle.gaz_plain.specs.Gazetteer.{Gazetteer, line_with}
+use Rattle.gaz_serve.specs.declared.step.EndFault.{EndFault}
+use Rattle.gaz_serve.specs.Step.{IsSound}
+use Rattle.gaz_serve.proofs.Rows.{sound_end, whole_buffer}
+use Rattle.gaz_serve.proofs.Meeting.{tells_unloaded, tells_found, tells_unfound}
 use Rattle.gaz_serve.proofs.session.Session.tell_code.Goals as goal
+use Rattle.gaz_serve.proofs.session.Session.tell_code.Goals.{in-Ok-Some, in-Ok-None, in-Err}
 
-pub returns-in-None-clause-given : goal.returns-in-None-clause-given
-returns-in-None-clause-given g c =
-    refused_given (state_of c.args.self.now) (option_to_list (line_with Codes c.args.code.now (state_of c.args.self.now).gaz)) (g.T.Station.view c.args.station.now) (g.T.Station.view c.write_refusal.new.station) c.write_refusal.result (λ o told left. g.met.T.Station.only_now c.args.station.now o told left)
-    (ap (λ session. session.lines.date) (sym c.self.view_is) ∙ sym c.date.ensures ∙ c.in-None.is)
-    (record { printed = c.write_refusal.ensures.printed; moments = c.write_refusal.ensures.moments; areas = c.write_refusal.ensures.areas })
+pub returns-then-is_none-clause-tells : goal.returns-then-is_none-clause-tells
+returns-then-is_none-clause-tells g c =
+    tells_unloaded (λ gaz. option_to_list (line_with Codes c.args.code.now gaz)) c.args.self.now.root (g.T.Station.view c.args.station.now) c.requires.«open».fits
+    (ap (λ session. is_some session.root) (sym c.self.view_is) ∙ ap is_some (sym c.root.ensures.root) ∙ c.if-is_none.ensures) (g.T.Station.view c.refuse.new.station) c.refuse.result c.refuse.ensures.replies c.refuse.ensures.sound
 
-pub returns-in-Some-clause-given : goal.returns-in-Some-clause-given
-returns-in-Some-clause-given g c =
-    lines_given (state_of c.args.self.now) (option_to_list (line_with Codes c.args.code.now (state_of c.args.self.now).gaz)) (g.T.Station.view c.args.station.now) (g.T.Station.view c.tell_found.new.station) c.tell_found.result (λ o told left. g.met.T.Station.only_now c.args.station.now o told left)
-    c.in-Some.field-0 (ap (λ session. session.lines.date) (sym c.self.view_is) ∙ sym c.date.ensures ∙ c.in-Some.is)
-    (subst (λ session. Replies (rows (option_to_list (line_with Codes c.args.code.now session.lines))) (g.T.Station.view c.args.station.now) (g.T.Station.view c.tell_found.new.station) c.tell_found.result) c.self.view_is (subst (λ line. Replies (rows (option_to_list line)) (g.T.Station.view c.args.station.now) (g.T.Station.view c.tell_found.new.station) c.tell_found.result) (c.admin.ensures ∙ ap (λ (code : List ℕ). line_with Codes code c.self.inside.gaz) c.as_bytes.ensures.value) c.tell_found.ensures.replies))
-
-pub returns-in-None-clause-open : goal.returns-in-None-clause-open
-returns-in-None-clause-open g c opened = open_still _ (g.T.Station.view c.args.station.now) (g.T.Station.view c.write_refusal.new.station) c.write_refusal.ensures.told c.write_refusal.ensures.areas opened
-
-pub returns-in-Some-clause-open : goal.returns-in-Some-clause-open
-returns-in-Some-clause-open g c opened =
-    open_still _ (g.T.Station.view c.args.station.now) (g.T.Station.view c.tell_found.new.station) c.tell_found.ensures.reports.told c.tell_found.ensures.replies.areas
-    opened
+pub returns-clause-tells : goal.returns-clause-tells
+returns-clause-tells g c =
+    let lines = λ (gaz : Gazetteer). option_to_list (line_with Codes c.args.code.now gaz) in
+    let v0 = g.T.Station.view c.args.station.now in
+    let v1 = g.T.Station.view c.get_code.new.station in
+    let some = ap (λ session. is_some session.root) (sym c.self.view_is) ∙ ap is_some (sym c.root.ensures.root) ∙ c.if-is_none.ensures in
+    let fits = c.requires.«open».fits in
+    elim c.match-get_code.branch [
+      | in-Ok-Some w ↦ rw (w.station-is, w.result-is)
+          (tells_found lines c.args.self.now.root v0 fits some v1 c.get_code.ensures.leaves.reads _
+          (λ told gaz mirrors. ap (λ (b : List ℕ). take w.in-Ok-Some.size b ∷ []) (w.deref.ensures.value ∙ whole_buffer _ c.get_code.new.buf c.self.inside.buf.items (c.get_code.ensures.size ∙ c.deref_mut.ensures.len)) ∙ ap option_to_list (sym (rw w.in-Ok-Some.field-0-is at (w.in-Ok-Some.ensures.line told gaz mirrors)) ∙ ap (λ (code : List ℕ). line_with Codes code gaz) c.as_bytes.ensures.value))
+          (g.T.Station.view w.tell_found.new.station) w.tell_found.result w.tell_found.ensures.replies w.tell_found.ensures.sound)
+      | in-Ok-None w ↦ rw (w.station-is, w.result-is)
+          (tells_found lines c.args.self.now.root v0 fits some v1 c.get_code.ensures.leaves.reads []
+          (λ told gaz mirrors. ap option_to_list (sym (rw w.in-Ok-None.field-0-is at (w.in-Ok-None.ensures.line told gaz mirrors)) ∙ ap (λ (code : List ℕ). line_with Codes code gaz) c.as_bytes.ensures.value))
+          (g.T.Station.view w.tell_found-in-Ok-None.new.station) w.tell_found-in-Ok-None.result w.tell_found-in-Ok-None.ensures.replies w.tell_found-in-Ok-None.ensures.sound)
+      | in-Err w ↦ rw (w.station-is, w.result-is)
+          (tells_unfound lines c.args.self.now.root v0 fits some v1 c.get_code.ensures.leaves.reads w.end_of.result
+          (λ told gaz mirrors. subst (λ (e : EndFault). IsSound {A = Unit {0}} (Err e)) (sym w.end_of.ensures) (sound_end w.in-Err.fault (w.in-Err.ensures.damaged told gaz mirrors))))
+    ]

@@ -1,33 +1,36 @@
-use Rattle.std.proofs.Common.{◌∷◌, [], ap, sym, subst, ◌∙◌}
-use Rattle.std.specs.Prelude.{if◌then◌else◌, is_none, option_to_list, option_copied}
+use Rattle.std.proofs.Common.{ℕ, List, ◌≡◌, ◌∷◌, [], ◌∙◌, sym, subst, ap, take, Ok, Err}
+use Rattle.std.specs.Prelude.{is_some, option_to_list}
 use Rattle.gaz_num.specs.declared.words.Table.TheVariants.{Rows}
-use Rattle.gaz_num.specs.Refusal.{not_loaded}
-use Rattle.gaz_plain.specs.Gazetteer.{line_with}
-use Rattle.gaz_reply.specs.Reply.{refused, rows}
-use Rattle.gaz_turns.specs.Turns.{same_state}
-use Rattle.gaz_turns.specs.Steps.{IsGiven}
-use Rattle.gaz_turns.proofs.Told.{told_given}
-use Rattle.gaz_serve.specs.Session.{state_of}
-use Rattle.gaz_serve.proofs.Fitting.{open_still}
+use Rattle.gaz_plain.specs.Gazetteer.{Gazetteer, line_with}
+use Rattle.gaz_serve.specs.declared.step.EndFault.{EndFault}
+use Rattle.gaz_serve.specs.Step.{IsSound}
+use Rattle.gaz_serve.proofs.Rows.{sound_end, whole_buffer}
+use Rattle.gaz_serve.proofs.Meeting.{tells_unloaded, tells_found, tells_unfound}
 use Rattle.gaz_serve.proofs.session.Session.tell_place.Goals as goal
+use Rattle.gaz_serve.proofs.session.Session.tell_place.Goals.{in-Ok-Some, in-Ok-None, in-Err}
 
-pub returns-in-None-clause-given : goal.returns-in-None-clause-given
-returns-in-None-clause-given g c =
-    let state = state_of c.args.self.now in
-    subst (λ reply. IsGiven (same_state state reply) state (g.T.Station.view c.args.station.now) (g.T.Station.view c.write_refusal.new.station) c.write_refusal.result)
-    (ap (λ date. if is_none date then refused not_loaded else rows (option_to_list (line_with Rows (c.args.id ∷ []) state.gaz))) (sym (ap (λ session. session.lines.date) (sym c.self.view_is) ∙ sym c.date.ensures ∙ c.in-None.is)))
-    (told_given state (refused not_loaded) _ _ c.write_refusal.result (λ o told left. g.met.T.Station.only_now c.args.station.now o told left) c.write_refusal.ensures.printed c.write_refusal.ensures.moments c.write_refusal.ensures.areas)
+pub returns-then-is_none-clause-tells : goal.returns-then-is_none-clause-tells
+returns-then-is_none-clause-tells g c =
+    tells_unloaded (λ gaz. option_to_list (line_with Rows (c.args.id ∷ []) gaz)) c.args.self.now.root (g.T.Station.view c.args.station.now) c.requires.«open».fits
+    (ap (λ session. is_some session.root) (sym c.self.view_is) ∙ ap is_some (sym c.root.ensures.root) ∙ c.if-is_none.ensures) (g.T.Station.view c.refuse.new.station) c.refuse.result c.refuse.ensures.replies c.refuse.ensures.sound
 
-pub returns-in-Some-clause-given : goal.returns-in-Some-clause-given
-returns-in-Some-clause-given g c =
-    let state = state_of c.args.self.now in
-    subst (λ reply. IsGiven (same_state state reply) state (g.T.Station.view c.args.station.now) (g.T.Station.view c.tell_found.new.station) c.tell_found.result)
-    (ap (λ line. rows (option_to_list line)) (c.get.ensures ∙ ap (λ session. line_with Rows (c.args.id ∷ []) session.lines) c.self.view_is)
-    ∙ ap (λ date. if is_none date then refused not_loaded else rows (option_to_list (line_with Rows (c.args.id ∷ []) state.gaz))) (sym (ap (λ session. session.lines.date) (sym c.self.view_is) ∙ sym c.date.ensures ∙ c.in-Some.is)))
-    (told_given state (rows (option_to_list (option_copied c.get.result))) _ _ c.tell_found.result (λ o told left. g.met.T.Station.only_now c.args.station.now o told left) c.tell_found.ensures.replies.printed c.tell_found.ensures.replies.moments c.tell_found.ensures.replies.areas)
-
-pub returns-in-None-clause-open : goal.returns-in-None-clause-open
-returns-in-None-clause-open g c opened = open_still _ (g.T.Station.view c.args.station.now) (g.T.Station.view c.write_refusal.new.station) c.write_refusal.ensures.told c.write_refusal.ensures.areas opened
-
-pub returns-in-Some-clause-open : goal.returns-in-Some-clause-open
-returns-in-Some-clause-open g c opened = open_still _ (g.T.Station.view c.args.station.now) (g.T.Station.view c.tell_found.new.station) c.tell_found.ensures.reports.told c.tell_found.ensures.replies.areas opened
+pub returns-clause-tells : goal.returns-clause-tells
+returns-clause-tells g c =
+    let lines = λ (gaz : Gazetteer). option_to_list (line_with Rows (c.args.id ∷ []) gaz) in
+    let v0 = g.T.Station.view c.args.station.now in
+    let v1 = g.T.Station.view c.get_row.new.station in
+    let some = ap (λ session. is_some session.root) (sym c.self.view_is) ∙ ap is_some (sym c.root.ensures.root) ∙ c.if-is_none.ensures in
+    let fits = c.requires.«open».fits in
+    elim c.match-get_row.branch [
+      | in-Ok-Some w ↦ rw (w.station-is, w.result-is)
+          (tells_found lines c.args.self.now.root v0 fits some v1 c.get_row.ensures.leaves.reads _
+          (λ told gaz mirrors. ap (λ (b : List ℕ). take w.in-Ok-Some.size b ∷ []) (w.deref.ensures.value ∙ whole_buffer _ c.get_row.new.buf c.self.inside.buf.items (c.get_row.ensures.size ∙ c.deref_mut.ensures.len)) ∙ ap option_to_list (sym (rw w.in-Ok-Some.field-0-is at (w.in-Ok-Some.ensures.line told gaz mirrors))))
+          (g.T.Station.view w.tell_found.new.station) w.tell_found.result w.tell_found.ensures.replies w.tell_found.ensures.sound)
+      | in-Ok-None w ↦ rw (w.station-is, w.result-is)
+          (tells_found lines c.args.self.now.root v0 fits some v1 c.get_row.ensures.leaves.reads []
+          (λ told gaz mirrors. ap option_to_list (sym (rw w.in-Ok-None.field-0-is at (w.in-Ok-None.ensures.line told gaz mirrors))))
+          (g.T.Station.view w.tell_found-in-Ok-None.new.station) w.tell_found-in-Ok-None.result w.tell_found-in-Ok-None.ensures.replies w.tell_found-in-Ok-None.ensures.sound)
+      | in-Err w ↦ rw (w.station-is, w.result-is)
+          (tells_unfound lines c.args.self.now.root v0 fits some v1 c.get_row.ensures.leaves.reads w.end_of.result
+          (λ told gaz mirrors. subst (λ (e : EndFault). IsSound {A = Unit {0}} (Err e)) (sym w.end_of.ensures) (sound_end w.in-Err.fault (w.in-Err.ensures.damaged told gaz mirrors))))
+    ]
