@@ -85,6 +85,6 @@ pub fn each_call_of_a_tree(rt: &impl Print, alloc: Global) -> Result<(), Stopped
         check(pages.calls() == number, "a call after the one that failed")?;
         runs = turn;
     }
-    check(runs > 50, "few calls")?;
+    check(runs > 40, "few calls")?;
     printed(println!(rt; "a tree put and taken out: every seventh call failed in turn"))
 }
