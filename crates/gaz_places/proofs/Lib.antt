@@ -1,0 +1,5 @@
+pub mod Found
+pub mod Stands
+pub mod Put
+pub mod TakenOut
+pub mod Walk

@@ -1,0 +1,6 @@
+pub mod Areas
+pub mod Found
+pub mod Frames
+pub mod Lists
+pub mod Once
+pub mod Reading

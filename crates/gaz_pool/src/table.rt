@@ -1,0 +1,78 @@
+//! The frames, and where each page stands among them.
+ghost use Rattle.std.specs.Prelude.{◌≡◌, ◌≢◌, ◌<◌, ◌≤◌, [], ◌∷◌, ◌++◌, length, vec_capacity, slice_set, IfOk, IfSome, IfNone};
+ghost use Rattle.gaz_pool.specs.Frames.{number_of, pages_in, refreshed, without_side};
+ghost use Rattle.gaz_pool.specs.Numbers.{page_number};
+ghost use Rattle.gaz_pool.specs.Table.{StandsAt, Has, AreFound};
+ghost use Rattle.gaz_places.specs.Places.{found_in, most_in};
+
+use crate::frame::{Frame, number};
+use gaz_page::Side;
+use gaz_places::Places;
+use std::alloc::{AllocError, Global};
+
+/// The frames that hold a page, with room for as many as were reserved.
+#[derive(Drop)]
+pub(crate) struct Table {
+    pub frames: Vec<Frame>,
+    /// Where the frame of each page stands.
+    places: Places,
+    pub ghost found: { AreFound (found_in places) (pages_in frames.items) },
+    pub ghost within: { length frames.items ≤ most_in places },
+    pub ghost room: { most_in places ≤ vec_capacity frames },
+    pub ghost some: { 1 ≤ most_in places },
+    pub ghost few: { most_in places ≤ 65536 },
+}
+
+impl Table {
+    ghost use Rattle.gaz_pool.specs.Rooms.{most_of};
+
+    /// No page, and room for so many frames.
+    pub fn new(alloc: Global, most: u32) -> Result<Table, AllocError>
+        requires some { 1 ≤ most }
+        requires few { most ≤ 65536 }
+        ensures none { IfOk result (λ table. table.frames.items ≡ []) }
+        ensures most { IfOk result (λ table. most_of table ≡ most) }
+    {
+        Ok(Table {
+            frames: Vec::with_capacity(alloc, most as usize)?,
+            places: Places::new(alloc, most)?,
+        })
+    }
+
+    /// Where the frame of a page stands.
+    pub fn find(&self, side: Side, page: u32) -> Option<usize>
+        ensures here { IfSome result (λ place. StandsAt (pages_in self.now.frames.items) place (page_number side page)) }
+        ensures none { IfNone result (Has (pages_in self.now.frames.items) (page_number side page) → ⊥) }
+    {
+        match self.places.get(number(side, page)) {
+            Some(place) => Some(place as usize),
+            None => None,
+        }
+    }
+
+    /// Puts a frame of a page that isn't held behind the others.
+    pub fn push(&mut self, frame: Frame)
+        requires new { Has (pages_in self.old.frames.items) (number_of frame) → ⊥ }
+        requires room { length self.old.frames.items < most_of self.old }
+        ensures frames { self.new.frames.items ≡ self.old.frames.items ++ frame ∷ [] }
+        ensures most { most_of self.new ≡ most_of self.old }
+    {
+        let place = self.frames.len() as u32;
+        self.places.put(number(frame.side, frame.page), place);
+        self.frames.push(frame).unwrap();
+    }
+
+    /// Puts a frame of a page that isn't held in the place of another.
+    pub fn replace(&mut self, place: usize, frame: Frame)
+        requires new { Has (pages_in self.old.frames.items) (number_of frame) → ⊥ }
+        requires there { place < length self.old.frames.items }
+        ensures frames { self.new.frames.items ≡ slice_set self.old.frames.items place frame }
+        ensures most { most_of self.new ≡ most_of self.old }
+    {
+        let last = &self.frames[place];
+        self.places.take_out(number(last.side, last.page));
+        self.places
+            .put(number(frame.side, frame.page), place as u32);
+        self.frames[place] = frame;
+    }
+}
