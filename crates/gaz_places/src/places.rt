@@ -70,6 +70,13 @@ impl Places {
         })
     }
 
+    /// How many places there are.
+    pub fn most(&self) -> u32
+        ensures { result ≡ most_in self.now }
+    {
+        self.links.len() as u32
+    }
+
     /// The place that the key has.
     pub fn get(&self, key: u64) -> Option<u32>
         ensures found { result ≡ found_in self.now key }

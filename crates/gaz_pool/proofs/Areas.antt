@@ -3,7 +3,7 @@ use Rattle.std.proofs.Common.{◌≡◌, ◌≢◌, inl, inr, ⊎_elim, ℕ, ◌
 use Rattle.std.proofs.lemmas.Bool.{cases_lt}
 use Rattle.std.proofs.lemmas.List.{ext_get_or}
 use Rattle.gaz_outside.specs.declared.station.Area.{Area}
-use Rattle.gaz_outside.specs.Station.{overlaid}
+use Rattle.gaz_outside.specs.Station.{overlaid, area_place}
 use Rattle.gaz_outside.specs.Overlaid.{overlaid_before, overlaid_inside, overlaid_after}
 use Rattle.gaz_page.specs.Area.{page_at, length-page_at}
 use Rattle.gaz_page.specs.declared.page.Side.{Side}
@@ -35,3 +35,10 @@ number_tells Left Left p q same = (refl, omega (arith, same))
 number_tells Right Right p q same = (refl, omega (arith, same))
 number_tells Left Right p q same = absurd (omega (arith, same))
 number_tells Right Left p q same = absurd (omega (arith, same))
+
+-- an area has one side
+pub same_side : (s t : Side) → side_area s ≡ side_area t → s ≡ t
+same_side Left Left same = refl
+same_side Right Right same = refl
+same_side Left Right same = absurd (let place : 3 ≡ 4 = ap area_place same in omega (arith, place))
+same_side Right Left same = absurd (let place : 4 ≡ 3 = ap area_place same in omega (arith, place))

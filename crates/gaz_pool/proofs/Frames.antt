@@ -4,9 +4,9 @@ use Rattle.std.proofs.lemmas.Bool.{cases_lt, cases_eq}
 use Rattle.std.proofs.lemmas.List.{length-append, length-set, get_or_append_left, get_or-set_same, get_or-set_other, map-set, map-append}
 use Rattle.std.proofs.Math.Seq.{get_or-append_seam}
 use Rattle.gaz_pool.specs.declared.frame.Frame.{Frame}
-use Rattle.gaz_pool.specs.Frames.{number_of, pages_in, frame_of}
+use Rattle.gaz_pool.specs.Frames.{number_of, pages_in, frame_of, blank, frame_at}
 use Rattle.gaz_pool.specs.Table.{Has, OneEach}
-use Rattle.gaz_pool.proofs.Lists.{blank, frame_at, IsFrameOf, number_at, pages_long, frame_found, frame_once}
+use Rattle.gaz_pool.proofs.Lists.{IsFrameOf, number_at, pages_long, frame_found, frame_once}
 use Rattle.gaz_pool.proofs.Once.{once_pushed, once_replaced}
 
 -- the frame of a page is the one that stands at a place with its number

@@ -7,15 +7,8 @@ use Rattle.std.proofs.lemmas.Option.{get_or_from_slice_get, slice_get_read}
 use Rattle.gaz_page.specs.declared.page.Side.TheVariants.{Left}
 use Rattle.gaz_redo.proofs.ImageEdits.{two_cases}
 use Rattle.gaz_pool.specs.declared.frame.Frame.{Frame}
-use Rattle.gaz_pool.specs.Frames.{number_of, pages_in, frame_of}
+use Rattle.gaz_pool.specs.Frames.{number_of, pages_in, frame_of, blank, frame_at}
 use Rattle.gaz_pool.specs.Table.{StandsAt, Has, OneEach}
-
--- a frame for places that have none
-pub blank : Frame
-blank = record { side = Left; page = 0; waits = false; bytes = [] }
-
-abbrev pub frame_at : List Frame → ℕ → Frame
-frame_at frames place = get_or frames place blank
 
 -- what an index within the frames gives
 pub frame_read : (frames : List Frame) (place : ℕ) (frame : Frame) → place < length frames → frame ≡ get_or frames place frame → frame_at frames place ≡ frame

@@ -1,9 +1,10 @@
 -- What the frames of a pool hold.
-use Rattle.std.specs.Prelude.{◌≡◌, ℕ, ◌<◌, Bool, true, false, ◌==◌, ◌&&◌, not, if◌then◌else◌, List, [], ◌∷◌, ◌++◌, length, map, filter, slice_set, Option, Some, None}
+use Rattle.std.specs.Prelude.{◌≡◌, ◌≢◌, ℕ, ◌<◌, Bool, true, false, ◌==◌, ◌&&◌, not, if◌then◌else◌, List, [], ◌∷◌, ◌++◌, length, map, filter, slice_set, slice_index_or, Option, Some, None}
 use Rattle.std.specs.List.{All}
 use Rattle.gaz_outside.specs.declared.station.Area.{Area}
 use Rattle.gaz_outside.specs.Station.{area_place}
 use Rattle.gaz_page.specs.declared.page.Side.{Side}
+use Rattle.gaz_page.specs.declared.page.Side.TheVariants.{Left}
 use Rattle.gaz_page.specs.Area.{page_at}
 use Rattle.gaz_pool.specs.declared.frame.Frame.{Frame}
 use Rattle.gaz_pool.specs.Sides.{side_area}
@@ -26,6 +27,22 @@ Holds frames side page = Has (pages_in frames) (page_number side page)
 abbrev pub frame_of : ℕ → List Frame → Option Frame
 frame_of number [] = None
 frame_of number (frame ∷ frames) = if number_of frame == number then Some frame else frame_of number frames
+
+-- a frame that holds nothing
+abbrev pub blank : Frame
+blank = record { side = Left; page = 0; waits = false; bytes = [] }
+
+-- the frame at a place
+abbrev pub frame_at : List Frame → ℕ → Frame
+frame_at frames place = slice_index_or frames place blank
+
+-- a frame that waits no longer
+abbrev pub settled : Frame → Frame
+settled frame = record { side = frame.side; page = frame.page; waits = false; bytes = frame.bytes }
+
+-- a frame with other bytes
+abbrev pub filled : List ℕ → Bool → Frame → Frame
+filled bytes waits frame = record { side = frame.side; page = frame.page; waits = waits; bytes = bytes }
 
 -- A frame that doesn't wait to be written holds the page as its area has it.
 abbrev pub IsClean : (Area → List ℕ) → Frame → Type 0
@@ -52,9 +69,20 @@ pooled frames areas side page = laid_over (frame_of (page_number side page) fram
 abbrev pub GivesSame : List Frame → (Area → List ℕ) → List Frame → (Area → List ℕ) → Type 0
 GivesSame old areas_old new areas_new = (side : Side) (page : ℕ) → pooled new areas_new side page ≡ pooled old areas_old side page
 
+-- The frames agree with the areas, and give each page as before.
+pub record StillAgrees (old : List Frame) (areas_old : Area → List ℕ) (new : List Frame) (areas_new : Area → List ℕ) : Type 0 where
+  pub agrees : Agrees new areas_new
+  pub gives : GivesSame old areas_old new areas_new
+
+-- The frames agree with the areas, and give these bytes as this page, and each other page as before.
+pub record PutsPage (side : Side) (page : ℕ) (bytes : List ℕ) (old : List Frame) (areas_old : Area → List ℕ) (new : List Frame) (areas_new : Area → List ℕ) : Type 0 where
+  pub agrees : Agrees new areas_new
+  pub own : pooled new areas_new side page ≡ bytes
+  pub others : (s : Side) (p : ℕ) → page_number s p ≢ page_number side page → pooled new areas_new s p ≡ pooled old areas_old s p
+
 -- a frame with these bytes, where it holds this page
 abbrev pub with_bytes : ℕ → List ℕ → Frame → Frame
-with_bytes number bytes frame = if number_of frame == number then record { side = frame.side; page = frame.page; waits = frame.waits; bytes = bytes } else frame
+with_bytes number bytes frame = if number_of frame == number then filled bytes frame.waits frame else frame
 
 -- the frames after a page was given these bytes: the one that holds it has them
 abbrev pub refreshed : Side → ℕ → List ℕ → List Frame → List Frame

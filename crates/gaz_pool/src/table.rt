@@ -1,6 +1,6 @@
 //! The frames, and where each page stands among them.
-ghost use Rattle.std.specs.Prelude.{◌≡◌, ◌≢◌, ◌<◌, ◌≤◌, [], ◌∷◌, ◌++◌, length, vec_capacity, slice_set, IfOk, IfSome, IfNone};
-ghost use Rattle.gaz_pool.specs.Frames.{number_of, pages_in, refreshed, without_side};
+ghost use Rattle.std.specs.Prelude.{◌≡◌, true, false, ◌<◌, ◌≤◌, [], ◌∷◌, ◌++◌, length, vec_capacity, slice_set, IfOk, IfSome, IfNone};
+ghost use Rattle.gaz_pool.specs.Frames.{number_of, pages_in, frame_at, settled, filled};
 ghost use Rattle.gaz_pool.specs.Numbers.{page_number};
 ghost use Rattle.gaz_pool.specs.Table.{StandsAt, Has, AreFound};
 ghost use Rattle.gaz_places.specs.Places.{found_in, most_in};
@@ -74,5 +74,34 @@ impl Table {
         self.places
             .put(number(frame.side, frame.page), place as u32);
         self.frames[place] = frame;
+    }
+
+    /// Whether each frame holds a page.
+    pub fn is_full(&self) -> bool
+        ensures full { result ≡ true → length self.now.frames.items ≡ most_of self.now }
+        ensures room { result ≡ false → length self.now.frames.items < most_of self.now }
+    {
+        self.frames.len() == self.places.most() as usize
+    }
+
+    /// Tells that a frame waits no longer to be written.
+    pub fn settle(&mut self, place: usize)
+        requires there { place < length self.old.frames.items }
+        ensures frames { self.new.frames.items ≡ slice_set self.old.frames.items place (settled (frame_at self.old.frames.items place)) }
+        ensures most { most_of self.new ≡ most_of self.old }
+    {
+        self.frames[place].waits = false;
+    }
+
+    /// Gives a frame other bytes, and says whether it waits to be written.
+    pub fn fill(&mut self, place: usize, bytes: &[u8], waits: bool)
+        requires there { place < length self.old.frames.items }
+        requires size { length bytes.now ≡ 4096 }
+        ensures frames { self.new.frames.items ≡ slice_set self.old.frames.items place (filled bytes.now waits (frame_at self.old.frames.items place)) }
+        ensures most { most_of self.new ≡ most_of self.old }
+    {
+        let frame = &mut self.frames[place];
+        frame.bytes.copy_from_slice(bytes);
+        frame.waits = waits;
     }
 }
