@@ -3,6 +3,7 @@ pub mod Frames
 pub mod Keeps
 pub mod Numbers
 pub mod Pool
+pub mod Reads
 pub mod Rooms
 pub mod Sides
 pub mod Table

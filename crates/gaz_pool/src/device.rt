@@ -41,6 +41,7 @@ pub(crate) fn read_page<T: Station>(
 
 /// Writes what a frame holds in its place.
 pub(crate) fn write_page<T: Station>(station: &mut T, frame: &Frame) -> Result<(), Failed>
+    ensures size { length frame.now.bytes ≡ 4096 }
     ensures written { OnOk result (IsTrue (T.view station.old).is_told → (T.view station.new).bytes (side_area frame.now.side) ≡ overlaid ((T.view station.old).bytes (side_area frame.now.side)) (4096 * frame.now.page) frame.now.bytes) }
     ensures changed { IsTrue (T.view station.old).is_told → Writes (side_area frame.now.side) (4096 * frame.now.page) 4096 (T.view station.old) (T.view station.new) }
     ensures counts { Counts 0 1 (T.view station.old) (T.view station.new) }
