@@ -126,3 +126,50 @@ settle_still frames place areas new once after there whole waits own others agre
       where
         holds_own : (bytes : List ℕ) (page : ℕ) → laid_over (Some last) bytes page ≡ last.bytes
         holds_own bytes page = rw waits refl
+
+-- A frame of a page that isn't held is as clean after frames were written out as before.
+pub clean_still : (frames mid : List Frame) (areas new : Area → List ℕ) (frame : Frame) → OneEach (pages_in frames) → OneEach (pages_in mid)
+    → (Has (pages_in frames) (number_of frame) → ⊥) → (Has (pages_in mid) (number_of frame) → ⊥) → GivesSame frames areas mid new → IsClean areas frame → IsClean new frame
+clean_still frames mid areas new frame once after isnt still_isnt same clean idle =
+    clean idle
+    ∙ laid (areas (side_area frame.side)) frame.page None (frame_of (number_of frame) frames) (sym (frame_none (number_of frame) frames once isnt))
+    ∙ sym (same frame.side frame.page)
+    ∙ laid (new (side_area frame.side)) frame.page (frame_of (number_of frame) mid) None (frame_none (number_of frame) mid after still_isnt)
+
+-- one page is put after nothing else was changed
+pub puts_after : (side : Side) (page : ℕ) (bytes : List ℕ) (frames mid last : List Frame) (areas between new : Area → List ℕ) → GivesSame frames areas mid between → PutsPage side page bytes mid between last new → PutsPage side page bytes frames areas last new
+puts_after side page bytes frames mid last areas between new same puts = record {
+  agrees = puts.agrees;
+  own = puts.own;
+  others = λ s p differs. puts.others s p differs ∙ same s p;
+}
+
+-- a page that no frame holds is seen as the area has it
+pub unheld_page : (frames : List Frame) (areas : Area → List ℕ) (side : Side) (page : ℕ) → OneEach (pages_in frames) → (Has (pages_in frames) (page_number side page) → ⊥) → pooled frames areas side page ≡ page_at (areas (side_area side)) page
+unheld_page frames areas side page once isnt = laid (areas (side_area side)) page (frame_of (page_number side page) frames) None (frame_none (page_number side page) frames once isnt)
+
+-- and one that a frame holds as that frame has it
+pub held_page : (frames : List Frame) (areas : Area → List ℕ) (place : ℕ) (side : Side) (page : ℕ) → OneEach (pages_in frames) → place < length frames
+    → number_of (frame_at frames place) ≡ page_number side page → Agrees frames areas → (frame_at frames place).bytes ≡ pooled frames areas side page
+held_page frames areas place side page once within is agrees =
+    let frame = frame_at frames place in
+    let told = number_tells frame.side side frame.page page is in
+    let clean = All-get_or (IsClean areas) frames place blank within agrees in
+    sym (own_laid areas frame clean frame.waits refl)
+    ∙ laid (areas (side_area frame.side)) frame.page (Some frame) (frame_of (number_of frame) frames) (sym (frame_here frames place once within))
+    ∙ ap (λ (s : Side). pooled frames areas s frame.page) told.0
+    ∙ ap (pooled frames areas side) told.1
+
+-- putting a page as it was gives each page as before
+pub gives_put : (side : Side) (page : ℕ) (bytes : List ℕ) (frames new : List Frame) (areas after : Area → List ℕ) → PutsPage side page bytes frames areas new after → bytes ≡ pooled frames areas side page → StillAgrees frames areas new after
+gives_put side page bytes frames new areas after puts same = record {
+  agrees = puts.agrees;
+  gives = λ s p. elim (cases_eq (page_number s p) (page_number side page)) [
+    | inl is ↦
+        let told = number_tells s side p page is in
+        ap (λ (t : Side). pooled new after t p) told.0 ∙ ap (pooled new after side) told.1
+        ∙ puts.own ∙ same
+        ∙ sym (ap (λ (t : Side). pooled frames areas t p) told.0 ∙ ap (pooled frames areas side) told.1)
+    | inr differs ↦ puts.others s p differs
+  ];
+}

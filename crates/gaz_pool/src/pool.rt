@@ -1,6 +1,6 @@
 //! The pool of frames.
-ghost use Rattle.std.specs.Prelude.{◌≡◌, ◌+◌, ◌<◌, ◌≤◌, ℕ, false, [], IsTrue, IfOk, OnOk, OnErr, length};
-ghost use Rattle.std.specs.List.{All};
+ghost use Rattle.std.specs.Prelude.{◌≡◌, ◌+◌, ◌<◌, ◌≤◌, ℕ, List, false, [], IsTrue, IfOk, OnOk, OnErr, length};
+ghost use Rattle.gaz_outside.specs.declared.station.Area.{Area};
 ghost use Rattle.gaz_outside.specs.Outside.{HasCause};
 ghost use Rattle.gaz_outside.specs.Station.{Counts};
 ghost use Rattle.gaz_pool.specs.Clock.{round_of};
@@ -83,6 +83,144 @@ impl FramePool {
             }
         } else {
             Ok(())
+        }
+    }
+
+    /// Puts a page that isn't held into an empty frame.
+    fn add(&mut self, frame: Frame)
+        requires new { Has (pages_in (frames_in self.old)) (number_of frame) → ⊥ }
+        requires empty { length (frames_in self.old) < room_in self.old }
+        ensures puts { (areas : Area → List ℕ) → Agrees (frames_in self.old) areas → IsClean areas frame
+            → PutsPage frame.side frame.page frame.bytes (frames_in self.old) areas (frames_in self.new) areas }
+        ensures added { IsAdded frame.side frame.page (frames_in self.old) (frames_in self.new) }
+        ensures none { NoneWaits (frames_in self.old) → frame.waits ≡ false → NoneWaits (frames_in self.new) }
+        ensures asked { loaded_in self.new ≡ frame.bytes }
+        ensures room { room_in self.new ≡ room_in self.old }
+    {
+        let place = self.table.frames.len();
+        self.table.push(frame);
+        self.ask(place);
+    }
+
+    /// Puts a page that isn't held in the place of one that doesn't wait to be written.
+    fn take_place(&mut self, place: usize, frame: Frame)
+        requires new { Has (pages_in (frames_in self.old)) (number_of frame) → ⊥ }
+        requires there { place < length (frames_in self.old) }
+        requires idle { (frame_at (frames_in self.old) place).waits ≡ false }
+        ensures puts { (areas : Area → List ℕ) → Agrees (frames_in self.old) areas → IsClean areas frame
+            → PutsPage frame.side frame.page frame.bytes (frames_in self.old) areas (frames_in self.new) areas }
+        ensures taken { TakesPlaceOfOne frame.side frame.page (frames_in self.old) (frames_in self.new) }
+        ensures none { NoneWaits (frames_in self.old) → frame.waits ≡ false → NoneWaits (frames_in self.new) }
+        ensures asked { loaded_in self.new ≡ frame.bytes }
+        ensures room { room_in self.new ≡ room_in self.old }
+    {
+        self.table.replace(place, frame);
+        self.ask(place);
+    }
+
+    /// Puts a page that isn't held into an empty frame, or in the place of one that is given up and written where it waits.
+    fn hold<T: Station>(&mut self, station: &mut T, frame: Frame) -> Result<(), Failed>
+        requires new { Has (pages_in (frames_in self.old)) (number_of frame) → ⊥ }
+        ensures puts { OnOk result (IsTrue (T.view station.old).is_told → Agrees (frames_in self.old) (T.view station.old).bytes → IsClean (T.view station.old).bytes frame
+            → PutsPage frame.side frame.page frame.bytes (frames_in self.old) (T.view station.old).bytes (frames_in self.new) (T.view station.new).bytes) }
+        ensures added { OnOk result (length (frames_in self.old) < room_in self.old → IsAdded frame.side frame.page (frames_in self.old) (frames_in self.new)) }
+        ensures taken { OnOk result (room_in self.old ≤ length (frames_in self.old) → TakesPlaceOfOne frame.side frame.page (frames_in self.old) (frames_in self.new)) }
+        ensures kept { OnErr result (pages_in (frames_in self.new) ≡ pages_in (frames_in self.old)) }
+        ensures fails { OnErr result (NoneWaits (frames_in self.old) → frames_in self.new ≡ frames_in self.old) }
+        ensures none { OnOk result (NoneWaits (frames_in self.old) → frame.waits ≡ false → NoneWaits (frames_in self.new)) }
+        ensures asked { OnOk result (loaded_in self.new ≡ frame.bytes) }
+        ensures reads { NoneWaits (frames_in self.old) → OnlyReads (T.view station.old) (T.view station.new) }
+        ensures room { room_in self.new ≡ room_in self.old }
+        ensures counts { Counts 0 1 (T.view station.old) (T.view station.new) }
+        ensures cause { HasCause (T.view station.old).faults (T.view station.new).faults result }
+    {
+        if !self.table.is_full() {
+            self.add(frame);
+            return Ok(());
+        }
+        let place = self.clock.turn();
+        match self.clean(station, place) {
+            Ok(()) => {
+                self.take_place(place, frame);
+                Ok(())
+            }
+            Err(failed) => Err(failed),
+        }
+    }
+
+    /// Reads a page that isn't held.
+    fn fetch<T: Station>(&mut self, station: &mut T, side: Side, page: u32) -> Result<(), Failed>
+        requires new { Holds (frames_in self.old) side page → ⊥ }
+        ensures bytes { OnOk result (IsTrue (T.view station.old).is_told → Agrees (frames_in self.old) (T.view station.old).bytes
+            → loaded_in self.new ≡ pooled (frames_in self.old) (T.view station.old).bytes side page) }
+        ensures still { OnOk result (IsTrue (T.view station.old).is_told → Agrees (frames_in self.old) (T.view station.old).bytes
+            → StillAgrees (frames_in self.old) (T.view station.old).bytes (frames_in self.new) (T.view station.new).bytes) }
+        ensures added { OnOk result (length (frames_in self.old) < room_in self.old → IsAdded side page (frames_in self.old) (frames_in self.new)) }
+        ensures taken { OnOk result (room_in self.old ≤ length (frames_in self.old) → TakesPlaceOfOne side page (frames_in self.old) (frames_in self.new)) }
+        ensures kept { OnErr result (pages_in (frames_in self.new) ≡ pages_in (frames_in self.old)) }
+        ensures fails { OnErr result (NoneWaits (frames_in self.old) → frames_in self.new ≡ frames_in self.old) }
+        ensures none { OnOk result (NoneWaits (frames_in self.old) → NoneWaits (frames_in self.new)) }
+        ensures reads { NoneWaits (frames_in self.old) → OnlyReads (T.view station.old) (T.view station.new) }
+        ensures room { room_in self.new ≡ room_in self.old }
+        ensures counts { Counts 1 1 (T.view station.old) (T.view station.new) }
+        ensures cause { HasCause (T.view station.old).faults (T.view station.new).faults result }
+    {
+        match read_page(station, side, page) {
+            Ok(bytes) => {
+                let frame = Frame {
+                    side,
+                    page,
+                    waits: false,
+                    bytes,
+                };
+                self.hold(station, frame)
+            }
+            Err(failed) => Err(failed),
+        }
+    }
+
+    /// Sees to it that a frame holds the page, which `loaded` then gives: the page as the area has it, with the frames laid over that wait
+    /// to be written. It reads nothing where a frame holds the page, and else at most one page, and writes at most one, which is given up.
+    pub fn load<T: Station>(
+        &mut self,
+        station: &mut T,
+        side: Side,
+        page: u32,
+    ) -> Result<(), Failed>
+        ensures bytes { OnOk result (IsTrue (T.view station.old).is_told → Agrees (frames_in self.old) (T.view station.old).bytes
+            → loaded_in self.new ≡ pooled (frames_in self.old) (T.view station.old).bytes side page) }
+        ensures still { OnOk result (IsTrue (T.view station.old).is_told → Agrees (frames_in self.old) (T.view station.old).bytes
+            → StillAgrees (frames_in self.old) (T.view station.old).bytes (frames_in self.new) (T.view station.new).bytes) }
+        ensures held { Holds (frames_in self.old) side page → frames_in self.new ≡ frames_in self.old }
+        ensures unread { Holds (frames_in self.old) side page → Counts 0 0 (T.view station.old) (T.view station.new) }
+        ensures added { OnOk result ((Holds (frames_in self.old) side page → ⊥) → length (frames_in self.old) < room_in self.old → IsAdded side page (frames_in self.old) (frames_in self.new)) }
+        ensures taken { OnOk result ((Holds (frames_in self.old) side page → ⊥) → room_in self.old ≤ length (frames_in self.old) → TakesPlaceOfOne side page (frames_in self.old) (frames_in self.new)) }
+        ensures kept { OnErr result (pages_in (frames_in self.new) ≡ pages_in (frames_in self.old)) }
+        // What holds after `Failed` too, where no frame waits to be written.
+        ensures fails { OnErr result (NoneWaits (frames_in self.old) → frames_in self.new ≡ frames_in self.old) }
+        ensures none { NoneWaits (frames_in self.old) → NoneWaits (frames_in self.new) }
+        ensures reads { NoneWaits (frames_in self.old) → OnlyReads (T.view station.old) (T.view station.new) }
+        ensures room { room_in self.new ≡ room_in self.old }
+        ensures counts { Counts 1 1 (T.view station.old) (T.view station.new) }
+        ensures cause { HasCause (T.view station.old).faults (T.view station.new).faults result }
+    {
+        match self.table.find(side, page) {
+            Some(place) => {
+                self.ask(place);
+                Ok(())
+            }
+            None => self.fetch(station, side, page),
+        }
+    }
+
+    /// The page that was loaded last.
+    pub fn loaded(&self) -> &[u8]
+        ensures bytes { result.now ≡ loaded_in self.now }
+        ensures size { length result.now ≡ 4096 }
+    {
+        match self.table.frames.get(self.asked) {
+            Some(frame) => &frame.bytes,
+            None => &ZEROS,
         }
     }
 }
