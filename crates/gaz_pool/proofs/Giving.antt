@@ -9,11 +9,12 @@ use Rattle.gaz_outside.specs.Station.{overlaid}
 use Rattle.gaz_outside.specs.SameArea.{which}
 use Rattle.gaz_page.specs.declared.page.Side.{Side}
 use Rattle.gaz_page.specs.Area.{page_at}
+use Rattle.gaz_redo.proofs.Steps.{true_not_false}
 use Rattle.gaz_pool.specs.declared.frame.Frame.{Frame}
 use Rattle.gaz_pool.specs.Sides.{side_area}
 use Rattle.gaz_pool.specs.Numbers.{page_number}
 use Rattle.gaz_pool.specs.Table.{Has, OneEach}
-use Rattle.gaz_pool.specs.Frames.{number_of, pages_in, frame_of, frame_at, blank, settled, laid_over, pooled, IsClean, Agrees, GivesSame, StillAgrees, PutsPage}
+use Rattle.gaz_pool.specs.Frames.{number_of, pages_in, frame_of, frame_at, blank, settled, laid_over, pooled, IsClean, Agrees, GivesSame, StillAgrees, PutsPage, filled}
 use Rattle.gaz_pool.proofs.Areas.{over_own, over_other, number_tells, same_side}
 use Rattle.gaz_pool.proofs.Lists.{number_at, pages_long}
 use Rattle.gaz_pool.proofs.Frames.{frame_here, frame_none, pushed_other, pushed_own, set_other, set_own, set_gone}
@@ -173,3 +174,18 @@ gives_put side page bytes frames new areas after puts same = record {
     | inr differs ↦ puts.others s p differs
   ];
 }
+
+-- a page that is held is given bytes that wait to be written
+pub puts_filled : (side : Side) (page : ℕ) (bytes : List ℕ) (frames : List Frame) (place : ℕ) (areas : Area → List ℕ) → OneEach (pages_in frames) → OneEach (pages_in (set frames place (filled bytes true (frame_at frames place)))) → place < length frames
+    → number_of (frame_at frames place) ≡ page_number side page → Agrees frames areas → PutsPage side page bytes frames areas (set frames place (filled bytes true (frame_at frames place))) areas
+puts_filled side page bytes frames place areas once after there is agrees =
+    let last = frame_at frames place in
+    let frame = filled bytes true last in
+    let new = set frames place frame in
+    record {
+      agrees = All-set (IsClean areas) frames place frame (λ idle. absurd (true_not_false true refl idle)) agrees;
+      own = laid (areas (side_area side)) page (frame_of (page_number side page) new) (Some frame) (ap (λ (n : ℕ). frame_of n new) (sym is) ∙ set_own place frames frame after there);
+      others = λ s p differs.
+          let away = λ (same : number_of last ≡ page_number s p). differs (sym same ∙ is) in
+          laid (areas (side_area s)) p (frame_of (page_number s p) new) (frame_of (page_number s p) frames) (set_other (page_number s p) place frames frame after there away away);
+    }

@@ -6,3 +6,4 @@ pub mod Lists
 pub mod Once
 pub mod Pages
 pub mod Reading
+pub mod Refreshing

@@ -1,5 +1,5 @@
 //! One page in memory.
-ghost use Rattle.std.specs.Prelude.{◌≡◌};
+ghost use Rattle.std.specs.Prelude.{◌≡◌, length};
 ghost use Rattle.gaz_pool.specs.Sides.{side_area};
 ghost use Rattle.gaz_pool.specs.Numbers.{page_number};
 
@@ -14,6 +14,16 @@ pub(crate) struct Frame {
     /// Whether it waits to be written.
     pub waits: bool,
     pub bytes: [u8; PAGE],
+}
+
+/// A page as one piece.
+pub(crate) fn page_of(bytes: &[u8]) -> [u8; PAGE]
+    requires { length bytes.now ≡ 4096 }
+    ensures { result ≡ bytes.now }
+{
+    let mut page = [0; PAGE];
+    page.copy_from_slice(bytes);
+    page
 }
 
 /// The area of a side.

@@ -12,7 +12,7 @@ ghost use Rattle.gaz_pool.specs.Table.{Has};
 
 use crate::clock::Clock;
 use crate::device::{read_page, write_page};
-use crate::frame::Frame;
+use crate::frame::{Frame, page_of};
 use crate::table::Table;
 use gaz_outside::{Failed, Station};
 use gaz_page::{PAGE, Side};
@@ -221,6 +221,59 @@ impl FramePool {
         match self.table.frames.get(self.asked) {
             Some(frame) => &frame.bytes,
             None => &ZEROS,
+        }
+    }
+
+    /// Gives a page these bytes where a frame holds it: they were committed.
+    pub fn refresh(&mut self, side: Side, page: u32, bytes: &[u8])
+        requires { length bytes.now ≡ 4096 }
+        ensures frames { frames_in self.new ≡ refreshed side page bytes.now (frames_in self.old) }
+        ensures room { room_in self.new ≡ room_in self.old }
+    {
+        match self.table.find(side, page) {
+            Some(place) => {
+                let waits = self.table.frames[place].waits;
+                self.table.fill(place, bytes, waits);
+            }
+            None => {}
+        }
+    }
+
+    /// Gives a page these bytes, which are written later: when its frame is given up, or by `flush`. It writes at most one page, which is
+    /// given up.
+    pub fn write_back<T: Station>(
+        &mut self,
+        station: &mut T,
+        side: Side,
+        page: u32,
+        bytes: &[u8],
+    ) -> Result<(), Failed>
+        requires { length bytes.now ≡ 4096 }
+        ensures puts { OnOk result (IsTrue (T.view station.old).is_told → Agrees (frames_in self.old) (T.view station.old).bytes
+            → PutsPage side page bytes.now (frames_in self.old) (T.view station.old).bytes (frames_in self.new) (T.view station.new).bytes) }
+        ensures held { Holds (frames_in self.old) side page → pages_in (frames_in self.new) ≡ pages_in (frames_in self.old) }
+        ensures unwritten { Holds (frames_in self.old) side page → Counts 0 0 (T.view station.old) (T.view station.new) }
+        ensures added { OnOk result ((Holds (frames_in self.old) side page → ⊥) → length (frames_in self.old) < room_in self.old → IsAdded side page (frames_in self.old) (frames_in self.new)) }
+        ensures taken { OnOk result ((Holds (frames_in self.old) side page → ⊥) → room_in self.old ≤ length (frames_in self.old) → TakesPlaceOfOne side page (frames_in self.old) (frames_in self.new)) }
+        ensures kept { OnErr result (pages_in (frames_in self.new) ≡ pages_in (frames_in self.old)) }
+        ensures room { room_in self.new ≡ room_in self.old }
+        ensures counts { Counts 0 1 (T.view station.old) (T.view station.new) }
+        ensures cause { HasCause (T.view station.old).faults (T.view station.new).faults result }
+    {
+        match self.table.find(side, page) {
+            Some(place) => {
+                self.table.fill(place, bytes, true);
+                Ok(())
+            }
+            None => {
+                let frame = Frame {
+                    side,
+                    page,
+                    waits: true,
+                    bytes: page_of(bytes),
+                };
+                self.hold(station, frame)
+            }
         }
     }
 }
