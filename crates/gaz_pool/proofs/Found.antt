@@ -1,7 +1,7 @@
 -- The map of the places of pages, after one is put behind the others or in the place of another.
-use Rattle.std.proofs.Common.{◌≡◌, ◌≢◌, ℕ, ◌+◌, ◌<◌, ◌≤◌, List, [], ◌∷◌, ◌++◌, length, get_or, set, Option, Some, None, unwrap_or, refl, sym, ◌∙◌, ap, subst, arith, inl, inr}
+use Rattle.std.proofs.Common.{◌≡◌, ◌≢◌, ℕ, ◌+◌, ◌<◌, ◌≤◌, List, [], ◌∷◌, ◌++◌, length, get_or, set, take, Option, Some, None, unwrap_or, refl, sym, ◌∙◌, ap, subst, arith, inl, inr}
 use Rattle.std.proofs.lemmas.Bool.{cases_lt, cases_eq}
-use Rattle.std.proofs.lemmas.List.{length-append, length-set, get_or_append_left, get_or-set_same, get_or-set_other}
+use Rattle.std.proofs.lemmas.List.{length-append, length-set, length-take-le, get_or-take, take_more, get_or_append_left, get_or-set_same, get_or-set_other}
 use Rattle.std.proofs.Math.Seq.{get_or-append_seam}
 use Rattle.gaz_pool.specs.Table.{StandsAt, Has, OneEach, AreFound}
 
@@ -104,3 +104,26 @@ found_replaced map less new numbers place number are within isnt gone kept put o
                   let elsewhere : i ≢ place = λ same. away (sym (ap (λ (k : ℕ). get_or numbers k 0) (sym same) ∙ stands.1)) in
                   (omega (arith, low, long), get_or-set_other numbers place i number 0 elsewhere ∙ stands.1)
             ]
+
+front_long : (numbers : List ℕ) (place : ℕ) → place < length numbers → length (take place numbers) ≡ place
+front_long numbers place there = length-take-le place numbers (omega (arith, there))
+
+-- the number at a place doesn't stand before it
+unseen : (numbers : List ℕ) (place : ℕ) → OneEach numbers → place < length numbers → Has (take place numbers) (get_or numbers place 0) → ⊥
+unseen numbers place once there (i, within, is) =
+    let low : i < place = omega (arith, within, front_long numbers place there) in
+    let same : i ≡ place = once i place (omega (arith, low, there)) there (sym (get_or-take place numbers i 0 low) ∙ is) in
+    omega (arith, same, low)
+
+-- Where the numbers before a place have been entered: the next has no place, no number has the place, and then it may be entered.
+pub next_new : (map : ℕ → Option ℕ) (numbers : List ℕ) (place : ℕ) → OneEach numbers → place < length numbers → AreFound map (take place numbers) → map (get_or numbers place 0) ≡ None
+next_new map numbers place once there are = found_none map (take place numbers) (get_or numbers place 0) are (unseen numbers place once there)
+
+pub next_unused : (map : ℕ → Option ℕ) (numbers : List ℕ) (place other : ℕ) → place < length numbers → AreFound map (take place numbers) → map other ≡ Some place → ⊥
+next_unused map numbers place other there are = end_unused map (take place numbers) place other are (sym (front_long numbers place there))
+
+pub next_entered : (map new : ℕ → Option ℕ) (numbers : List ℕ) (place : ℕ) → OneEach numbers → place < length numbers → AreFound map (take place numbers)
+    → new (get_or numbers place 0) ≡ Some place → ((other : ℕ) → other ≢ get_or numbers place 0 → new other ≡ map other) → AreFound new (take (place + 1) numbers)
+next_entered map new numbers place once there are put others =
+    subst (AreFound new) (sym (take_more numbers place 0 there))
+    (found_pushed map new (take place numbers) (get_or numbers place 0) are (unseen numbers place once there) (put ∙ ap Some (sym (front_long numbers place there))) others)

@@ -1,4 +1,5 @@
 pub mod Areas
+pub mod Filtered
 pub mod Found
 pub mod Frames
 pub mod Giving

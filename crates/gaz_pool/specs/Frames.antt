@@ -2,9 +2,8 @@
 use Rattle.std.specs.Prelude.{◌≡◌, ◌≢◌, ℕ, ◌<◌, Bool, true, false, ◌==◌, ◌&&◌, not, if◌then◌else◌, List, [], ◌∷◌, ◌++◌, length, map, filter, slice_set, slice_index_or, Option, Some, None}
 use Rattle.std.specs.List.{All}
 use Rattle.gaz_outside.specs.declared.station.Area.{Area}
-use Rattle.gaz_outside.specs.Station.{area_place}
 use Rattle.gaz_page.specs.declared.page.Side.{Side}
-use Rattle.gaz_page.specs.declared.page.Side.TheVariants.{Left}
+use Rattle.gaz_page.specs.declared.page.Side.TheVariants.{Left, Right}
 use Rattle.gaz_page.specs.Area.{page_at}
 use Rattle.gaz_pool.specs.declared.frame.Frame.{Frame}
 use Rattle.gaz_pool.specs.Sides.{side_area}
@@ -88,9 +87,16 @@ with_bytes number bytes frame = if number_of frame == number then filled bytes f
 abbrev pub refreshed : Side → ℕ → List ℕ → List Frame → List Frame
 refreshed side page bytes frames = map (with_bytes (page_number side page) bytes) frames
 
--- a frame isn't of this side
+-- whether two sides are not the same
+abbrev pub are_apart : Side → Side → Bool
+are_apart Left Left = false
+are_apart Right Right = false
+are_apart Left Right = true
+are_apart Right Left = true
+
+-- whether a frame isn't of this side
 abbrev pub is_beside : Side → Frame → Bool
-is_beside side frame = not (area_place (side_area frame.side) == area_place (side_area side))
+is_beside side frame = are_apart side frame.side
 
 -- the frames that are not of this side
 abbrev pub without_side : Side → List Frame → List Frame

@@ -1,8 +1,8 @@
 //! The frames, and where each page stands among them.
-ghost use Rattle.std.specs.Prelude.{◌≡◌, true, false, ◌<◌, ◌≤◌, [], ◌∷◌, ◌++◌, length, vec_capacity, slice_set, IfOk, IfSome, IfNone};
-ghost use Rattle.gaz_pool.specs.Frames.{number_of, pages_in, frame_at, settled, filled};
+ghost use Rattle.std.specs.Prelude.{◌≡◌, true, false, ◌<◌, ◌≤◌, [], ◌∷◌, ◌++◌, length, vec_capacity, slice_set, ℕ, None, IfOk, IfSome, IfNone};
+ghost use Rattle.gaz_pool.specs.Frames.{number_of, pages_in, frame_at, settled, filled, is_beside, without_side};
 ghost use Rattle.gaz_pool.specs.Numbers.{page_number};
-ghost use Rattle.gaz_pool.specs.Table.{StandsAt, Has, AreFound};
+ghost use Rattle.gaz_pool.specs.Table.{StandsAt, Has, OneEach, AreFound};
 ghost use Rattle.gaz_places.specs.Places.{found_in, most_in};
 
 use crate::frame::{Frame, number};
@@ -103,5 +103,45 @@ impl Table {
         let frame = &mut self.frames[place];
         frame.bytes.copy_from_slice(bytes);
         frame.waits = waits;
+    }
+
+    /// Drops the frames of a side.
+    pub fn forget(&mut self, side: Side)
+        ensures frames { self.new.frames.items ≡ without_side side self.old.frames.items }
+        ensures most { most_of self.new ≡ most_of self.old }
+    {
+        self.frames.retain(
+            |frame: &Frame| -> bool
+                ensures { result ≡ is_beside side frame.now }
+            { is_beside(side, frame) },
+        );
+        self.places.clear();
+        enter_all(&self.frames, &mut self.places);
+    }
+}
+
+/// Whether a frame isn't of this side.
+fn is_beside(side: Side, frame: &Frame) -> bool
+    ensures { result ≡ is_beside side frame.now }
+{
+    match (side, frame.side) {
+        (Side::Left, Side::Left) => false,
+        (Side::Right, Side::Right) => false,
+        (Side::Left, Side::Right) => true,
+        (Side::Right, Side::Left) => true,
+    }
+}
+
+/// Gives each page the place of its frame.
+fn enter_all(frames: &[Frame], places: &mut Places)
+    requires empty { (number : ℕ) → found_in places.old number ≡ None }
+    requires once { OneEach (pages_in frames.now) }
+    requires room { length frames.now ≤ most_in places.old }
+    requires few { most_in places.old ≤ 65536 }
+    ensures found { AreFound (found_in places.new) (pages_in frames.now) }
+    ensures most { most_in places.new ≡ most_in places.old }
+{
+    for (place, frame) in frames.iter().enumerate() {
+        places.put(number(frame.side, frame.page), place as u32);
     }
 }
