@@ -102,6 +102,10 @@ is_beside side frame = are_apart side frame.side
 abbrev pub without_side : Side → List Frame → List Frame
 without_side side frames = filter (is_beside side) frames
 
+-- No frame of this side waits to be written.
+abbrev pub NoneWaitsOf : Side → List Frame → Type 0
+NoneWaitsOf side frames = All (λ frame. is_beside side frame ≡ false → frame.waits ≡ false) frames
+
 -- One page more is held, and none is given up.
 abbrev pub IsAdded : Side → ℕ → List Frame → List Frame → Type 0
 IsAdded side page old new = pages_in new ≡ pages_in old ++ page_number side page ∷ []

@@ -1,10 +1,10 @@
 //! The pool of frames.
-ghost use Rattle.std.specs.Prelude.{◌≡◌, ◌+◌, ◌<◌, ◌≤◌, ℕ, List, false, [], IsTrue, IfOk, OnOk, OnErr, length};
+ghost use Rattle.std.specs.Prelude.{◌≡◌, ◌≢◌, ◌+◌, ◌<◌, ◌≤◌, ℕ, List, false, [], IsTrue, IfOk, OnOk, OnErr, length};
 ghost use Rattle.gaz_outside.specs.declared.station.Area.{Area};
 ghost use Rattle.gaz_outside.specs.Outside.{HasCause};
 ghost use Rattle.gaz_outside.specs.Station.{Counts};
 ghost use Rattle.gaz_pool.specs.Clock.{round_of};
-ghost use Rattle.gaz_pool.specs.Frames.{number_of, pages_in, pooled, frame_at, Holds, Agrees, IsClean, NoneWaits, StillAgrees, PutsPage, IsAdded, TakesPlaceOfOne, refreshed, without_side};
+ghost use Rattle.gaz_pool.specs.Frames.{number_of, pages_in, pooled, frame_at, Holds, Agrees, IsClean, NoneWaits, NoneWaitsOf, StillAgrees, PutsPage, IsAdded, TakesPlaceOfOne, refreshed, without_side};
 ghost use Rattle.gaz_pool.specs.Keeps.{OnlyReads};
 ghost use Rattle.gaz_pool.specs.Numbers.{page_number};
 ghost use Rattle.gaz_pool.specs.Rooms.{most_of};
@@ -65,6 +65,7 @@ impl FramePool {
         ensures still { OnOk result (IsTrue (T.view station.old).is_told → Agrees (frames_in self.old) (T.view station.old).bytes
             → StillAgrees (frames_in self.old) (T.view station.old).bytes (frames_in self.new) (T.view station.new).bytes) }
         ensures idle { OnOk result ((frame_at (frames_in self.new) place).waits ≡ false) }
+        ensures others { (other : ℕ) → other ≢ place → frame_at (frames_in self.new) other ≡ frame_at (frames_in self.old) other }
         ensures pages { pages_in (frames_in self.new) ≡ pages_in (frames_in self.old) }
         ensures none { NoneWaits (frames_in self.old) → frames_in self.new ≡ frames_in self.old }
         ensures reads { NoneWaits (frames_in self.old) → OnlyReads (T.view station.old) (T.view station.new) }
@@ -275,5 +276,31 @@ impl FramePool {
                 self.hold(station, frame)
             }
         }
+    }
+
+    /// Writes the frames of a side that wait to be written.
+    pub fn flush<T: Station>(&mut self, station: &mut T, side: Side) -> Result<(), Failed>
+        ensures still { OnOk result (IsTrue (T.view station.old).is_told → Agrees (frames_in self.old) (T.view station.old).bytes
+            → StillAgrees (frames_in self.old) (T.view station.old).bytes (frames_in self.new) (T.view station.new).bytes) }
+        ensures settled { OnOk result (NoneWaitsOf side (frames_in self.new)) }
+        ensures pages { pages_in (frames_in self.new) ≡ pages_in (frames_in self.old) }
+        ensures room { room_in self.new ≡ room_in self.old }
+        ensures counts { Counts 0 (length (frames_in self.old)) (T.view station.old) (T.view station.new) }
+        ensures cause { HasCause (T.view station.old).faults (T.view station.new).faults result }
+    {
+        for place in 0..self.table.frames.len() {
+            if self.table.is_of(place, side) {
+                self.clean(station, place)?;
+            }
+        }
+        Ok(())
+    }
+
+    /// Drops the frames of a side, written or not: its area is written past the pool.
+    pub fn forget(&mut self, side: Side)
+        ensures frames { frames_in self.new ≡ without_side side (frames_in self.old) }
+        ensures room { room_in self.new ≡ room_in self.old }
+    {
+        self.table.forget(side);
     }
 }

@@ -84,6 +84,14 @@ impl Table {
         self.frames.len() == self.places.most() as usize
     }
 
+    /// Whether the frame at a place is of this side.
+    pub fn is_of(&self, place: usize, side: Side) -> bool
+        requires there { place < length self.now.frames.items }
+        ensures is { result ≡ false → is_beside side (frame_at self.now.frames.items place) ≡ true }
+    {
+        !is_beside(side, &self.frames[place])
+    }
+
     /// Tells that a frame waits no longer to be written.
     pub fn settle(&mut self, place: usize)
         requires there { place < length self.old.frames.items }
