@@ -40,7 +40,7 @@ pub once_filtered : (stays : Frame → Bool) (frames : List Frame) → OneEach (
 once_filtered stays [] once = once
 once_filtered stays (frame ∷ frames) once = ⊎_elim
     (λ (yes : stays frame ≡ true). rw yes
-      (once_more (number_of frame) (pages_in (filter stays frames)) (once_filtered stays frames (once_tail (number_of frame) (pages_in frames) once))
-      (λ has. once_head (number_of frame) (pages_in frames) once (has_filtered stays frames (number_of frame) has))))
+    (once_more (number_of frame) (pages_in (filter stays frames)) (once_filtered stays frames (once_tail (number_of frame) (pages_in frames) once))
+    (λ has. once_head (number_of frame) (pages_in frames) once (has_filtered stays frames (number_of frame) has))))
     (λ (no : stays frame ≡ false). rw no (once_filtered stays frames (once_tail (number_of frame) (pages_in frames) once)))
     (two_cases (stays frame))

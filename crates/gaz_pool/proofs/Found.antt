@@ -31,8 +31,10 @@ found_pushed map new numbers number are isnt put others = record { here = here; 
   where
     all : List ℕ
     all = numbers ++ number ∷ []
+
     long : length all ≡ length numbers + 1
     long = length-append numbers (number ∷ [])
+
     here : (place : ℕ) → place < length all → new (get_or all place 0) ≡ Some place
     here place within =
         elim (cases_lt place (length numbers)) [
@@ -43,6 +45,7 @@ found_pushed map new numbers number are isnt put others = record { here = here; 
               let end : place ≡ length numbers = omega (arith, within, last, long) in
               ap new (ap (λ (k : ℕ). get_or all k 0) end ∙ get_or-append_seam numbers number [] 0) ∙ put ∙ ap Some (sym end)
         ]
+
     there : (other place : ℕ) → new other ≡ Some place → StandsAt all place other
     there other place is =
         elim (cases_eq other number) [
@@ -72,8 +75,10 @@ found_replaced map less new numbers place number are within isnt gone kept put o
   where
     all : List ℕ
     all = set numbers place number
+
     long : length all ≡ length numbers
     long = length-set numbers place number
+
     here : (i : ℕ) → i < length all → new (get_or all i 0) ≡ Some i
     here i below =
         let low : i < length numbers = omega (arith, below, long) in
@@ -85,6 +90,7 @@ found_replaced map less new numbers place number are within isnt gone kept put o
               ∙ kept (get_or numbers i 0) (λ same. away (found_once map numbers are i place low within same))
               ∙ are.here i low
         ]
+
     there : (other i : ℕ) → new other ≡ Some i → StandsAt all i other
     there other i is =
         elim (cases_eq other number) [

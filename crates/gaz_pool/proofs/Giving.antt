@@ -62,8 +62,10 @@ puts_replaced frames place frame areas once after there isnt idle clean agrees =
   where
     new : List Frame
     new = set frames place frame
+
     last : Frame
     last = frame_at frames place
+
     new_here : number_of frame ≡ number_of last → ⊥
     new_here same = isnt (place, omega (arith, there, pages_long frames), number_at frames place there ∙ sym same)
 
@@ -91,10 +93,13 @@ settle_still frames place areas new once after there whole waits own others agre
   where
     last : Frame
     last = frame_at frames place
+
     all : List Frame
     all = set frames place (settled last)
+
     is_own : page_at (new (side_area last.side)) last.page ≡ last.bytes
     is_own = ap (λ (file : List ℕ). page_at file last.page) own ∙ over_own (areas (side_area last.side)) last.bytes last.page whole
+
     each : (i : ℕ) → i < length all → IsClean new (get_or all i blank)
     each i low =
         let within : i < length frames = omega (arith, low, length-set frames place (settled last)) in
@@ -103,8 +108,9 @@ settle_still frames place areas new once after there whole waits own others agre
           | inr away ↦ subst (IsClean new) (sym (get_or-set_other frames place i (settled last) blank away))
               (λ idle. All-get_or (IsClean areas) frames i blank within agrees idle
               ∙ sym (written_other areas new last.side (frame_at frames i).side last.page (frame_at frames i).page last.bytes whole own others
-                (λ same. away (once i place (omega (arith, within, pages_long frames)) (omega (arith, there, pages_long frames)) (number_at frames i within ∙ sym same ∙ sym (number_at frames place there))))))
+              (λ same. away (once i place (omega (arith, within, pages_long frames)) (omega (arith, there, pages_long frames)) (number_at frames i within ∙ sym same ∙ sym (number_at frames place there))))))
         ]
+
     seen : (side : Side) (page : ℕ) (o : Option Frame) → (number_of last ≡ page_number side page → ⊥) → laid_over o (new (side_area side)) page ≡ laid_over o (areas (side_area side)) page
     seen side page None differs = written_other areas new last.side side last.page page last.bytes whole own others differs
     seen side page (Some frame) differs = by_wait frame.waits refl
@@ -112,6 +118,7 @@ settle_still frames place areas new once after there whole waits own others agre
         by_wait : (w : Bool) → frame.waits ≡ w → laid_over (Some frame) (new (side_area side)) page ≡ laid_over (Some frame) (areas (side_area side)) page
         by_wait true is = rw is refl
         by_wait false is = rw is (written_other areas new last.side side last.page page last.bytes whole own others differs)
+
     gives : (side : Side) (page : ℕ) → pooled all new side page ≡ pooled frames areas side page
     gives side page = elim (cases_eq (number_of last) (page_number side page)) [
       | inl same ↦

@@ -8,3 +8,4 @@ pub mod Once
 pub mod Pages
 pub mod Reading
 pub mod Refreshing
+pub mod Round

@@ -53,5 +53,5 @@ frame_once number frames once (Some f) None (place, within, is, numbered) isnt =
     absurd (isnt (place, omega (arith, within, pages_long frames), number_at frames place within ∙ ap number_of is ∙ numbered))
 frame_once number frames once (Some f) (Some g) (i, low, is, numbered) (j, high, too, same) =
     let same_place : i ≡ j = once i j (omega (arith, low, pages_long frames)) (omega (arith, high, pages_long frames))
-        (number_at frames i low ∙ ap number_of is ∙ numbered ∙ sym same ∙ sym (ap number_of too) ∙ sym (number_at frames j high)) in
+    (number_at frames i low ∙ ap number_of is ∙ numbered ∙ sym same ∙ sym (ap number_of too) ∙ sym (number_at frames j high)) in
     ap Some (sym is ∙ ap (frame_at frames) same_place ∙ too)

@@ -13,13 +13,13 @@ pub once_pushed : (numbers : List ℕ) (number : ℕ) → OneEach numbers → (H
 once_pushed numbers number once isnt i j low high same =
     elim (cases_lt i (length numbers)) [
       | inl first ↦ elim (cases_lt j (length numbers)) [
-          | inl second ↦ once i j first second (sym (get_or_append_left numbers (number ∷ []) 0 i first) ∙ same ∙ get_or_append_left numbers (number ∷ []) 0 j second)
-          | inr last ↦ absurd (isnt (i, first, sym (get_or_append_left numbers (number ∷ []) 0 i first) ∙ same ∙ at_end j high last))
-        ]
+        | inl second ↦ once i j first second (sym (get_or_append_left numbers (number ∷ []) 0 i first) ∙ same ∙ get_or_append_left numbers (number ∷ []) 0 j second)
+        | inr last ↦ absurd (isnt (i, first, sym (get_or_append_left numbers (number ∷ []) 0 i first) ∙ same ∙ at_end j high last))
+      ]
       | inr last ↦ elim (cases_lt j (length numbers)) [
-          | inl second ↦ absurd (isnt (j, second, sym (get_or_append_left numbers (number ∷ []) 0 j second) ∙ sym same ∙ at_end i low last))
-          | inr end ↦ omega (arith, low, high, last, end, long numbers number)
-        ]
+        | inl second ↦ absurd (isnt (j, second, sym (get_or_append_left numbers (number ∷ []) 0 j second) ∙ sym same ∙ at_end i low last))
+        | inr end ↦ omega (arith, low, high, last, end, long numbers number)
+      ]
     ]
   where
     at_end : (k : ℕ) → k < length (numbers ++ number ∷ []) → length numbers ≤ k → get_or (numbers ++ number ∷ []) k 0 ≡ number
@@ -33,11 +33,11 @@ once_replaced numbers place number once there isnt i j low high same =
     let second : j < length numbers = omega (arith, high, length-set numbers place number) in
     elim (cases_eq i place) [
       | inl here ↦ elim (cases_eq j place) [
-          | inl too ↦ here ∙ sym too
-          | inr other ↦ absurd (isnt (j, second, sym (get_or-set_other numbers place j number 0 other) ∙ sym same ∙ ap (λ (k : ℕ). get_or (set numbers place number) k 0) here ∙ get_or-set_same numbers place number 0 there))
-        ]
+        | inl too ↦ here ∙ sym too
+        | inr other ↦ absurd (isnt (j, second, sym (get_or-set_other numbers place j number 0 other) ∙ sym same ∙ ap (λ (k : ℕ). get_or (set numbers place number) k 0) here ∙ get_or-set_same numbers place number 0 there))
+      ]
       | inr away ↦ elim (cases_eq j place) [
-          | inl too ↦ absurd (isnt (i, first, sym (get_or-set_other numbers place i number 0 away) ∙ same ∙ ap (λ (k : ℕ). get_or (set numbers place number) k 0) too ∙ get_or-set_same numbers place number 0 there))
-          | inr other ↦ once i j first second (sym (get_or-set_other numbers place i number 0 away) ∙ same ∙ get_or-set_other numbers place j number 0 other)
-        ]
+        | inl too ↦ absurd (isnt (i, first, sym (get_or-set_other numbers place i number 0 away) ∙ same ∙ ap (λ (k : ℕ). get_or (set numbers place number) k 0) too ∙ get_or-set_same numbers place number 0 there))
+        | inr other ↦ once i j first second (sym (get_or-set_other numbers place i number 0 away) ∙ same ∙ get_or-set_other numbers place j number 0 other)
+      ]
     ]

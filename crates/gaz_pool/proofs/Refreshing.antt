@@ -36,17 +36,17 @@ refreshed_here side page bytes frames place once there is =
     let all = refreshed side page bytes frames in
     ext_get_or blank new all (length-set frames place (filled bytes last.waits last) ∙ sym (length-map frames (with_bytes number bytes)))
     (λ i low.
-      let within : i < length frames = omega (arith, low, length-set frames place (filled bytes last.waits last)) in
-      elim (cases_eq i place) [
-        | inl same ↦
-            ap (λ (k : ℕ). frame_at new k) same ∙ get_or-set_same frames place (filled bytes last.waits last) blank there
-            ∙ sym (with_own number bytes last is) ∙ sym (at_place side page bytes frames place there) ∙ ap (λ (k : ℕ). frame_at all k) (sym same)
-        | inr away ↦
-            get_or-set_other frames place i (filled bytes last.waits last) blank away
-            ∙ sym (with_other number bytes (frame_at frames i) (λ same. away (once i place (omega (arith, within, pages_long frames)) (omega (arith, there, pages_long frames))
-                (number_at frames i within ∙ same ∙ sym is ∙ sym (number_at frames place there)))))
-            ∙ sym (at_place side page bytes frames i within)
-      ])
+    let within : i < length frames = omega (arith, low, length-set frames place (filled bytes last.waits last)) in
+    elim (cases_eq i place) [
+      | inl same ↦
+          ap (λ (k : ℕ). frame_at new k) same ∙ get_or-set_same frames place (filled bytes last.waits last) blank there
+          ∙ sym (with_own number bytes last is) ∙ sym (at_place side page bytes frames place there) ∙ ap (λ (k : ℕ). frame_at all k) (sym same)
+      | inr away ↦
+          get_or-set_other frames place i (filled bytes last.waits last) blank away
+          ∙ sym (with_other number bytes (frame_at frames i) (λ same. away (once i place (omega (arith, within, pages_long frames)) (omega (arith, there, pages_long frames))
+          (number_at frames i within ∙ same ∙ sym is ∙ sym (number_at frames place there)))))
+          ∙ sym (at_place side page bytes frames i within)
+    ])
 
 -- and where none does
 pub refreshed_none : (side : Side) (page : ℕ) (bytes : List ℕ) (frames : List Frame) → (Has (pages_in frames) (page_number side page) → ⊥) → frames ≡ refreshed side page bytes frames
@@ -54,5 +54,5 @@ refreshed_none side page bytes frames isnt =
     let number = page_number side page in
     ext_get_or blank frames (refreshed side page bytes frames) (sym (length-map frames (with_bytes number bytes)))
     (λ i low.
-      sym (with_other number bytes (frame_at frames i) (λ same. isnt (i, omega (arith, low, pages_long frames), number_at frames i low ∙ same)))
-      ∙ sym (at_place side page bytes frames i low))
+    sym (with_other number bytes (frame_at frames i) (λ same. isnt (i, omega (arith, low, pages_long frames), number_at frames i low ∙ same)))
+    ∙ sym (at_place side page bytes frames i low))

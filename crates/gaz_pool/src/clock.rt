@@ -14,8 +14,8 @@ pub(crate) struct Clock {
 }
 
 impl Clock {
-    ghost use Rattle.std.specs.Prelude.{◌≡◌, ◌<◌, ◌≤◌, IfOk};
-    ghost use Rattle.gaz_pool.specs.Clock.{round_of};
+    ghost use Rattle.std.specs.Prelude.{◌≡◌, ◌≢◌, ◌⊎◌, ◌<◌, ◌≤◌, ℕ, true, false, IfOk};
+    ghost use Rattle.gaz_pool.specs.Clock.{round_of, hand_of, is_recent, behind, AllRecent};
 
     /// A hand over so many frames, none of which was asked for.
     pub fn new(alloc: Global, frames: u32) -> Result<Clock, AllocError>
@@ -29,7 +29,9 @@ impl Clock {
     /// Tells that a frame was asked for.
     pub fn mark(&mut self, place: usize)
         requires { place < round_of self.old }
-        ensures { round_of self.new ≡ round_of self.old }
+        ensures round { round_of self.new ≡ round_of self.old }
+        ensures marked { is_recent self.new place ≡ true }
+        ensures hand { hand_of self.new ≡ hand_of self.old }
     {
         self.recent[place] = true;
     }
@@ -38,11 +40,20 @@ impl Clock {
     fn step(&mut self) -> (usize, bool)
         ensures place { result.0 < round_of self.old }
         ensures round { round_of self.new ≡ round_of self.old }
+        ensures left { result.0 ≡ hand_of self.old }
+        ensures recent { result.1 ≡ is_recent self.old (hand_of self.old) }
+        ensures moves { hand_of self.new ≡ behind (round_of self.old) (hand_of self.old) }
+        ensures passed { is_recent self.new (hand_of self.old) ≡ false }
+        ensures others { (place : ℕ) → place ≢ hand_of self.old → is_recent self.new place ≡ is_recent self.old place }
     {
         let place = self.hand;
         let recent = self.recent[place];
         self.recent[place] = false;
-        self.hand = if place + 1 < self.recent.len() { place + 1 } else { 0 };
+        self.hand = if place + 1 < self.recent.len() {
+            place + 1
+        } else {
+            0
+        };
         (place, recent)
     }
 
@@ -51,6 +62,7 @@ impl Clock {
     pub fn turn(&mut self) -> usize
         ensures place { result < round_of self.old }
         ensures round { round_of self.new ≡ round_of self.old }
+        ensures idle { (is_recent self.old result ≡ false) ⊎ AllRecent self.old }
     {
         for _ in 0..self.recent.len() {
             let (place, recent) = self.step();

@@ -182,12 +182,7 @@ impl FramePool {
 
     /// Sees to it that a frame holds the page, which `loaded` then gives: the page as the area has it, with the frames laid over that wait
     /// to be written. It reads nothing where a frame holds the page, and else at most one page, and writes at most one, which is given up.
-    pub fn load<T: Station>(
-        &mut self,
-        station: &mut T,
-        side: Side,
-        page: u32,
-    ) -> Result<(), Failed>
+    pub fn load<T: Station>(&mut self, station: &mut T, side: Side, page: u32) -> Result<(), Failed>
         ensures bytes { OnOk result (IsTrue (T.view station.old).is_told → Agrees (frames_in self.old) (T.view station.old).bytes
             → loaded_in self.new ≡ pooled (frames_in self.old) (T.view station.old).bytes side page) }
         ensures still { OnOk result (IsTrue (T.view station.old).is_told → Agrees (frames_in self.old) (T.view station.old).bytes

@@ -35,7 +35,7 @@ returns-in-Ok-clause-still g c told agrees =
     let whole : length last.bytes ≡ 4096 = ap (λ (f : Frame). length f.bytes) is ∙ size in
     let waits : last.waits ≡ true = ap (λ (f : Frame). f.waits) is ∙ c.if-frame.true in
     let own : new (side_area last.side) ≡ overlaid (areas (side_area last.side)) (4096 * last.page) last.bytes =
-        subst (λ (f : Frame). new (side_area f.side) ≡ overlaid (areas (side_area f.side)) (4096 * f.page) f.bytes) (sym is) (c.in-Ok.ensures.written told) in
+    subst (λ (f : Frame). new (side_area f.side) ≡ overlaid (areas (side_area f.side)) (4096 * f.page) f.bytes) (sym is) (c.in-Ok.ensures.written told) in
     subst (λ (l : List Frame). StillAgrees frames areas l new) (sym c.settle.ensures.frames)
     (settle_still frames place areas new once after c.requires whole waits own
     (λ a differs. ((c.write_page.ensures.changed told).others a (λ same. differs (same ∙ ap (λ (f : Frame). side_area f.side) (sym is)))).bytes)

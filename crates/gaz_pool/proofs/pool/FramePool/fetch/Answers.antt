@@ -17,8 +17,8 @@ returns-in-Ok-clause-bytes g c =
     let frames = table.frames.items in
     let areas = (g.T.Station.view c.args.station.now).bytes in
     on_ok_weaker c.hold.result (λ same told agrees.
-      same ∙ c.in-Ok.ensures.bytes told
-      ∙ sym (unheld_page frames areas c.args.side c.args.page (found_once (found_in table.places) (pages_in frames) table.found) c.requires.new))
+    same ∙ c.in-Ok.ensures.bytes told
+    ∙ sym (unheld_page frames areas c.args.side c.args.page (found_once (found_in table.places) (pages_in frames) table.found) c.requires.new))
     c.hold.ensures.asked
 
 pub returns-in-Ok-clause-still : goal.returns-in-Ok-clause-still
@@ -32,13 +32,13 @@ returns-in-Ok-clause-still g c =
     let reads = c.read_page.ensures.reads in
     let once = found_once (found_in table.places) (pages_in frames) table.found in
     on_ok_weaker c.hold.result (λ puts told agrees.
-      let same : areas ≡ mid = λ i a. sym ((reads.areas told).bytes a) i in
-      let now : IsTrue (view c.read_page.new.station).is_told = subst IsTrue (sym reads.counts.told) told in
-      let is = c.in-Ok.ensures.bytes told in
-      let put = puts now (subst (Agrees frames) same agrees) (λ idle. is ∙ ap (λ (file : Area → List ℕ). page_at (file (side_area c.args.side)) c.args.page) same) in
-      subst (λ (file : Area → List ℕ). StillAgrees frames file new (view c.hold.new.station).bytes) (sym same)
-      (gives_put c.args.side c.args.page c.in-Ok.bytes frames new mid (view c.hold.new.station).bytes put
-        (is ∙ sym (unheld_page frames areas c.args.side c.args.page once c.requires.new) ∙ ap (λ (file : Area → List ℕ). pooled frames file c.args.side c.args.page) same)))
+    let same : areas ≡ mid = λ i a. sym ((reads.areas told).bytes a) i in
+    let now : IsTrue (view c.read_page.new.station).is_told = subst IsTrue (sym reads.counts.told) told in
+    let is = c.in-Ok.ensures.bytes told in
+    let put = puts now (subst (Agrees frames) same agrees) (λ idle. is ∙ ap (λ (file : Area → List ℕ). page_at (file (side_area c.args.side)) c.args.page) same) in
+    subst (λ (file : Area → List ℕ). StillAgrees frames file new (view c.hold.new.station).bytes) (sym same)
+    (gives_put c.args.side c.args.page c.in-Ok.bytes frames new mid (view c.hold.new.station).bytes put
+    (is ∙ sym (unheld_page frames areas c.args.side c.args.page once c.requires.new) ∙ ap (λ (file : Area → List ℕ). pooled frames file c.args.side c.args.page) same)))
     c.hold.ensures.puts
 
 pub returns-in-Ok-clause-none : goal.returns-in-Ok-clause-none

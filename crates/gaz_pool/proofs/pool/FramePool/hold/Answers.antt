@@ -19,6 +19,6 @@ returns-in-Ok-clause-puts g c told agrees clean =
     let isnt = c.requires.new in
     let still_isnt = subst (λ (l : List ℕ). Has l (number_of frame) → ⊥) (sym c.clean.ensures.pages) isnt in
     let clean_now = clean_still old.frames.items mid.frames.items areas new frame (found_once (found_in old.places) (pages_in old.frames.items) old.found)
-        (found_once (found_in mid.places) (pages_in mid.frames.items) mid.found) isnt still_isnt still.gives clean in
+    (found_once (found_in mid.places) (pages_in mid.frames.items) mid.found) isnt still_isnt still.gives clean in
     puts_after frame.side frame.page frame.bytes old.frames.items mid.frames.items c.take_place.new.self.table.frames.items areas new new still.gives
     (c.take_place.ensures.puts new still.agrees clean_now)

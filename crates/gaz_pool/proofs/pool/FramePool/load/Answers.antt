@@ -18,7 +18,7 @@ returns-in-Some-clause-bytes g c told agrees =
     let within : place < length frames = omega (arith, here.0, pages_long frames) in
     c.ask.ensures.asked
     ∙ held_page frames areas place c.args.side c.args.page (found_once (found_in table.places) (pages_in frames) table.found) within
-      (sym (number_at frames place within) ∙ here.1) agrees
+    (sym (number_at frames place within) ∙ here.1) agrees
 
 pub returns-in-None-clause-taken : goal.returns-in-None-clause-taken
 returns-in-None-clause-taken g c = on_ok_weaker c.fetch.result (λ taken isnt full. taken full) c.fetch.ensures.taken

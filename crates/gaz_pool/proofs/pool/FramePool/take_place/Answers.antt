@@ -15,7 +15,7 @@ returns-clause-puts c areas agrees clean =
     let frames = table.frames.items in
     let new = c.replace.new.self in
     let after : OneEach (pages_in (set frames c.args.place c.args.frame)) =
-        subst (λ (l : List Frame). OneEach (pages_in l)) c.replace.ensures.frames (found_once (found_in new.places) (pages_in new.frames.items) new.found) in
+    subst (λ (l : List Frame). OneEach (pages_in l)) c.replace.ensures.frames (found_once (found_in new.places) (pages_in new.frames.items) new.found) in
     subst (λ (l : List Frame). PutsPage c.args.frame.side c.args.frame.page c.args.frame.bytes frames areas l areas) (sym (c.ask.ensures.frames ∙ c.replace.ensures.frames))
     (puts_replaced frames c.args.place c.args.frame areas (found_once (found_in table.places) (pages_in frames) table.found) after c.requires.there c.requires.new c.requires.idle clean agrees)
 
