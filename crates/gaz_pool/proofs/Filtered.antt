@@ -1,5 +1,5 @@
 -- Frames of which some were dropped hold no page twice.
-use Rattle.std.proofs.Common.{◌≡◌, ℕ, zero, suc, ◌<◌, Bool, true, false, List, [], ◌∷◌, length, get_or, take, refl, sym, ap, arith, ⊎_elim}
+use Rattle.std.proofs.Common.{◌≡◌, ℕ, zero, suc, Bool, true, false, List, [], ◌∷◌, refl, sym, ap, arith, ⊎_elim}
 use Rattle.std.specs.Prelude.{filter}
 use Rattle.gaz_redo.proofs.ImageEdits.{two_cases}
 use Rattle.gaz_pool.specs.declared.frame.Frame.{Frame}

@@ -1,13 +1,13 @@
 -- The frame of each page, after one is put behind the others or in the place of another.
-use Rattle.std.proofs.Common.{◌≡◌, ◌≢◌, ℕ, ◌+◌, ◌<◌, ◌≤◌, Bool, List, [], ◌∷◌, ◌++◌, length, map, get_or, set, Option, Some, None, refl, sym, ◌∙◌, ap, subst, arith, inl, inr}
+use Rattle.std.proofs.Common.{◌≡◌, ℕ, ◌+◌, ◌<◌, List, [], ◌∷◌, ◌++◌, length, set, Option, Some, None, refl, sym, ◌∙◌, ap, subst, arith, inl, inr}
 use Rattle.std.proofs.lemmas.Bool.{cases_lt, cases_eq}
-use Rattle.std.proofs.lemmas.List.{length-append, length-set, get_or_append_left, get_or-set_same, get_or-set_other, map-set, map-append}
+use Rattle.std.proofs.lemmas.List.{length-append, length-set, get_or_append_left, get_or-set_same, get_or-set_other, map-append}
 use Rattle.std.proofs.Math.Seq.{get_or-append_seam}
 use Rattle.gaz_pool.specs.declared.frame.Frame.{Frame}
 use Rattle.gaz_pool.specs.Frames.{number_of, pages_in, frame_of, blank, frame_at}
 use Rattle.gaz_pool.specs.Table.{Has, OneEach}
 use Rattle.gaz_pool.proofs.Lists.{IsFrameOf, number_at, pages_long, frame_found, frame_once}
-use Rattle.gaz_pool.proofs.Once.{once_pushed, once_replaced}
+use Rattle.gaz_pool.proofs.Once.{once_pushed}
 
 -- the frame of a page is the one that stands at a place with its number
 pub frame_here : (frames : List Frame) (place : ℕ) → OneEach (pages_in frames) → place < length frames → frame_of (number_of (frame_at frames place)) frames ≡ Some (frame_at frames place)

@@ -1,14 +1,12 @@
 -- Where the frame of a page stands.
-use Rattle.std.proofs.Common.{◌≡◌, ◌≢◌, ℕ, zero, suc, ◌+◌, ◌<◌, ◌≤◌, Bool, true, false, ◌==◌, List, [], ◌∷◌, ◌++◌, length, map, get_or, set, Option, Some, None, refl, sym, ◌∙◌, ap, arith, inl, inr, ⊎_elim, if◌then◌else◌}
-use Rattle.std.proofs.lemmas.Bool.{cases_lt, cases_eq}
+use Rattle.std.proofs.Common.{◌≡◌, ℕ, zero, suc, ◌<◌, true, false, ◌==◌, List, [], ◌∷◌, length, get_or, Option, Some, None, refl, sym, ◌∙◌, ap, arith, ⊎_elim}
 use Rattle.std.proofs.lemmas.Bool.Decides.{nat_tests}
 use Rattle.std.proofs.lemmas.List.{get_or-map, length-map}
 use Rattle.std.proofs.lemmas.Option.{get_or_from_slice_get, slice_get_read}
-use Rattle.gaz_page.specs.declared.page.Side.TheVariants.{Left}
 use Rattle.gaz_redo.proofs.ImageEdits.{two_cases}
 use Rattle.gaz_pool.specs.declared.frame.Frame.{Frame}
 use Rattle.gaz_pool.specs.Frames.{number_of, pages_in, frame_of, blank, frame_at}
-use Rattle.gaz_pool.specs.Table.{StandsAt, Has, OneEach}
+use Rattle.gaz_pool.specs.Table.{Has, OneEach}
 
 -- what an index within the frames gives
 pub frame_read : (frames : List Frame) (place : ℕ) (frame : Frame) → place < length frames → frame ≡ get_or frames place frame → frame_at frames place ≡ frame

@@ -1,9 +1,9 @@
 -- No number stands at two places, after one is put behind the others or in the place of another.
-use Rattle.std.proofs.Common.{◌≡◌, ◌≢◌, ℕ, ◌+◌, ◌<◌, ◌≤◌, List, [], ◌∷◌, ◌++◌, length, get_or, set, refl, sym, ◌∙◌, ap, arith, inl, inr, ⊎_elim}
+use Rattle.std.proofs.Common.{◌≡◌, ℕ, ◌+◌, ◌<◌, ◌≤◌, List, [], ◌∷◌, ◌++◌, length, get_or, set, sym, ◌∙◌, ap, arith, inl, inr}
 use Rattle.std.proofs.lemmas.Bool.{cases_lt, cases_eq}
 use Rattle.std.proofs.lemmas.List.{length-append, get_or_append_left, get_or-set_same, get_or-set_other, length-set}
 use Rattle.std.proofs.Math.Seq.{get_or-append_seam}
-use Rattle.gaz_pool.specs.Table.{StandsAt, Has, OneEach}
+use Rattle.gaz_pool.specs.Table.{Has, OneEach}
 
 long : (numbers : List ℕ) (number : ℕ) → length (numbers ++ number ∷ []) ≡ length numbers + 1
 long numbers number = length-append numbers (number ∷ [])

@@ -1,8 +1,8 @@
 -- Frames that hold other bytes of the same pages.
-use Rattle.std.proofs.Common.{◌≡◌, ℕ, List, set, Option, refl, sym, ◌∙◌, ap, subst}
+use Rattle.std.proofs.Common.{◌≡◌, ℕ, List, set, Option, sym, subst}
 use Rattle.std.proofs.Math.Seq.{map-set_same}
 use Rattle.gaz_pool.specs.declared.frame.Frame.{Frame}
-use Rattle.gaz_pool.specs.Frames.{number_of, pages_in, frame_at, blank, settled, filled}
+use Rattle.gaz_pool.specs.Frames.{number_of, pages_in, frame_at, blank}
 use Rattle.gaz_pool.specs.Table.{AreFound}
 
 pub filled_pages : (frames : List Frame) (place : ℕ) (frame : Frame) → number_of frame ≡ number_of (frame_at frames place) → pages_in (set frames place frame) ≡ pages_in frames

@@ -1,5 +1,5 @@
 -- What the frames of a pool hold.
-use Rattle.std.specs.Prelude.{◌≡◌, ◌≢◌, ℕ, ◌<◌, Bool, true, false, ◌==◌, ◌&&◌, not, if◌then◌else◌, List, [], ◌∷◌, ◌++◌, length, map, filter, slice_set, slice_index_or, Option, Some, None}
+use Rattle.std.specs.Prelude.{◌≡◌, ◌≢◌, ℕ, ◌<◌, Bool, true, false, ◌==◌, if◌then◌else◌, List, [], ◌∷◌, ◌++◌, length, map, filter, slice_set, slice_index_or, Option, Some, None}
 use Rattle.std.specs.List.{All}
 use Rattle.gaz_outside.specs.declared.station.Area.{Area}
 use Rattle.gaz_page.specs.declared.page.Side.{Side}

@@ -1,5 +1,5 @@
 -- What a pool holds.
-use Rattle.std.specs.Prelude.{ℕ, List, length, replicate, slice_get, Option, Some, None}
+use Rattle.std.specs.Prelude.{ℕ, List, replicate, slice_get, Option, Some, None}
 use Rattle.gaz_pool.specs.declared.frame.Frame.{Frame}
 use Rattle.gaz_pool.specs.declared.pool.FramePool.{FramePool}
 use Rattle.gaz_pool.specs.Rooms.{most_of}

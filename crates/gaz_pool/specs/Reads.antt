@@ -1,5 +1,5 @@
 -- How calls that only read go one after another.
-use Rattle.std.proofs.Common.{◌≡◌, IsTrue, refl, sym, ◌∙◌, subst, arith}
+use Rattle.std.proofs.Common.{IsTrue, refl, sym, ◌∙◌, subst, arith}
 use Rattle.gaz_outside.specs.Station.{StationView, Outcome, Leaves}
 use Rattle.gaz_outside.proofs.Runs.{confined_start, confined_on}
 use Rattle.gaz_redo.specs.Slots.{SameBytes}

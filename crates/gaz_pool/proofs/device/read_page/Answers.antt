@@ -1,4 +1,4 @@
-use Rattle.std.proofs.Common.{◌≡◌, ◌-◌, ◌++◌, ◌∙◌, ℕ, length, take, replicate, ap, arith, rules}
+use Rattle.std.proofs.Common.{◌≡◌, ◌-◌, ◌++◌, ◌∙◌, ℕ, length, take, replicate, ap, arith}
 use Rattle.gaz_outside.specs.declared.station.Area.{Area}
 use Rattle.gaz_page.specs.Area.{page_at}
 use Rattle.gaz_pool.proofs.Reading.{only_reads_call, padded_page}

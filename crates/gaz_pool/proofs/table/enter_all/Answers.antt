@@ -1,6 +1,6 @@
-use Rattle.std.proofs.Common.{◌≡◌, ◌≢◌, ◌∙◌, ◌<◌, length, ap, sym, arith}
+use Rattle.std.proofs.Common.{◌∙◌, ◌<◌, length, ap, sym, arith}
 use Rattle.gaz_places.specs.Places.{found_in}
-use Rattle.gaz_pool.specs.Frames.{pages_in, number_of, frame_at}
+use Rattle.gaz_pool.specs.Frames.{pages_in}
 use Rattle.gaz_pool.proofs.Found.{next_new, next_unused, next_entered}
 use Rattle.gaz_pool.proofs.Lists.{number_at, pages_long}
 use Rattle.gaz_pool.proofs.table.enter_all.Goals as goal

@@ -1,4 +1,4 @@
-use Rattle.std.proofs.Common.{◌≡◌, ◌∙◌, ◌+◌, ◌<◌, true, false, inl, inr, ⊎_elim, refl, sym, ap, subst, arith, ℕ}
+use Rattle.std.proofs.Common.{◌≡◌, ◌∙◌, ◌+◌, ◌<◌, true, inl, inr, ⊎_elim, refl, sym, ap, subst, arith, ℕ}
 use Rattle.gaz_pool.specs.Clock.{round_of, hand_of, is_recent, behind}
 use Rattle.gaz_pool.proofs.Round.{IsPassed, IsAt, step_on, passed_on, not_passed, hand_passed, all_passed, still_passed, none_passed}
 use Rattle.gaz_pool.proofs.clock.Clock.turn.Goals as goal

@@ -1,5 +1,4 @@
-use Rattle.std.proofs.Common.{◌≡◌, ◌*◌, ◌∙◌, true, List, length, set, refl, ap, subst, sym, rules}
-use Rattle.gaz_outside.specs.declared.station.Area.{Area}
+use Rattle.std.proofs.Common.{◌≡◌, ◌*◌, ◌∙◌, true, List, length, set, refl, ap, subst, sym}
 use Rattle.gaz_outside.specs.Station.{overlaid}
 use Rattle.gaz_places.specs.Places.{found_in}
 use Rattle.gaz_pool.specs.declared.frame.Frame.{Frame}

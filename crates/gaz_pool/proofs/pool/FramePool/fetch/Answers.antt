@@ -3,7 +3,7 @@ use Rattle.std.proofs.lemmas.Result.{on_ok_weaker}
 use Rattle.gaz_outside.specs.declared.station.Area.{Area}
 use Rattle.gaz_page.specs.Area.{page_at}
 use Rattle.gaz_places.specs.Places.{found_in}
-use Rattle.gaz_pool.specs.Frames.{pages_in, pooled, IsClean, Agrees, StillAgrees}
+use Rattle.gaz_pool.specs.Frames.{pages_in, pooled, Agrees, StillAgrees}
 use Rattle.gaz_pool.specs.Reads.{only_reads_on}
 use Rattle.gaz_pool.specs.Sides.{side_area}
 use Rattle.gaz_pool.proofs.Found.{found_once}

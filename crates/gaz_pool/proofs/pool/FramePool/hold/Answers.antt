@@ -1,4 +1,4 @@
-use Rattle.std.proofs.Common.{◌≡◌, ℕ, List, ap, subst, sym}
+use Rattle.std.proofs.Common.{ℕ, List, subst, sym}
 use Rattle.gaz_places.specs.Places.{found_in}
 use Rattle.gaz_pool.specs.Frames.{number_of, pages_in}
 use Rattle.gaz_pool.specs.Table.{Has}

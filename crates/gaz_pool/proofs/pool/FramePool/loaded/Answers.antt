@@ -1,4 +1,4 @@
-use Rattle.std.proofs.Common.{◌≡◌, ◌≤◌, length, ap, sym, subst}
+use Rattle.std.proofs.Common.{◌≤◌, length, ap, sym, subst}
 use Rattle.std.proofs.lemmas.Option.{slice_get_past}
 use Rattle.std.specs.Prelude.{List}
 use Rattle.gaz_pool.specs.declared.frame.Frame.{Frame}

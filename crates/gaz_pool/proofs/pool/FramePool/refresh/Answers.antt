@@ -1,4 +1,4 @@
-use Rattle.std.proofs.Common.{◌≡◌, ◌∙◌, ◌<◌, Bool, List, length, set, ap, sym, arith}
+use Rattle.std.proofs.Common.{◌∙◌, ◌<◌, Bool, length, set, ap, sym, arith}
 use Rattle.gaz_places.specs.Places.{found_in}
 use Rattle.gaz_pool.specs.declared.frame.Frame.{Frame}
 use Rattle.gaz_pool.specs.Frames.{pages_in, frame_at, filled}

@@ -1,4 +1,4 @@
-use Rattle.std.proofs.Common.{◌≡◌, ◌∙◌, ap, List, set, subst, sym}
+use Rattle.std.proofs.Common.{◌∙◌, ap, List, set, subst, sym}
 use Rattle.std.proofs.lemmas.List.{map-set}
 use Rattle.gaz_places.specs.Places.{found_in}
 use Rattle.gaz_pool.specs.declared.frame.Frame.{Frame}

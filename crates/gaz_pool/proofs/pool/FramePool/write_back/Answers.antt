@@ -1,4 +1,4 @@
-use Rattle.std.proofs.Common.{◌≡◌, ◌∙◌, ◌<◌, true, List, length, set, ap, subst, sym, refl, arith}
+use Rattle.std.proofs.Common.{◌∙◌, ◌<◌, true, List, length, set, ap, subst, sym, refl, arith}
 use Rattle.std.proofs.lemmas.Result.{on_ok_weaker}
 use Rattle.gaz_places.specs.Places.{found_in}
 use Rattle.gaz_pool.specs.declared.frame.Frame.{Frame}

@@ -1,8 +1,6 @@
-use Rattle.std.proofs.Common.{◌≡◌, ◌∙◌, ℕ, Some, None, Option, ap, sym, subst}
+use Rattle.std.proofs.Common.{◌∙◌, ap, sym}
 use Rattle.gaz_places.specs.Places.{found_in}
-use Rattle.gaz_pool.specs.Frames.{pages_in}
 use Rattle.gaz_pool.specs.Numbers.{page_number}
-use Rattle.gaz_pool.specs.Table.{Has}
 use Rattle.gaz_pool.proofs.table.Table.find.Goals as goal
 
 -- the map has its place

@@ -1,8 +1,8 @@
-use Rattle.std.proofs.Common.{◌≡◌, ◌≢◌, ◌∙◌, ◌++◌, ◌∷◌, [], ◌^◌, ℕ, List, Some, None, length, ap, subst, sym, arith, rules}
-use Rattle.std.proofs.lemmas.List.{map-append, length-append}
+use Rattle.std.proofs.Common.{◌≡◌, ◌∙◌, ◌++◌, ◌∷◌, [], Some, length, ap, subst, sym, arith, rules}
+use Rattle.std.proofs.lemmas.List.{map-append}
 use Rattle.gaz_places.specs.Places.{found_in}
 use Rattle.gaz_pool.specs.Frames.{number_of, pages_in}
-use Rattle.gaz_pool.specs.Table.{Has, AreFound}
+use Rattle.gaz_pool.specs.Table.{AreFound}
 use Rattle.gaz_pool.proofs.Found.{found_none, end_unused, found_pushed}
 use Rattle.gaz_pool.proofs.Lists.{pages_long}
 use Rattle.gaz_pool.proofs.table.Table.push.Goals as goal

@@ -1,9 +1,8 @@
-use Rattle.std.proofs.Common.{◌≡◌, ◌≢◌, ◌<◌, ◌∙◌, ◌^◌, ℕ, List, Some, None, length, ap, subst, sym, arith, get_or}
+use Rattle.std.proofs.Common.{◌≡◌, ◌<◌, ◌∙◌, length, ap, subst, sym, arith, get_or}
 use Rattle.std.proofs.lemmas.List.{map-set, length-set}
 use Rattle.gaz_places.specs.Places.{found_in}
-use Rattle.gaz_pool.specs.declared.frame.Frame.{Frame}
 use Rattle.gaz_pool.specs.Frames.{number_of, pages_in, frame_at}
-use Rattle.gaz_pool.specs.Table.{Has, AreFound}
+use Rattle.gaz_pool.specs.Table.{AreFound}
 use Rattle.gaz_pool.proofs.Found.{found_none, place_unused, found_replaced}
 use Rattle.gaz_pool.proofs.Lists.{frame_read, number_at, pages_long}
 use Rattle.gaz_pool.proofs.table.Table.replace.Goals as goal

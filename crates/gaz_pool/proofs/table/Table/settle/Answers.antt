@@ -1,8 +1,8 @@
-use Rattle.std.proofs.Common.{◌≡◌, arith, ap, sym, set}
+use Rattle.std.proofs.Common.{arith, ap, sym, set}
 use Rattle.std.proofs.lemmas.List.{length-set}
 use Rattle.gaz_places.specs.Places.{found_in}
 use Rattle.gaz_pool.specs.declared.frame.Frame.{Frame}
-use Rattle.gaz_pool.specs.Frames.{number_of, frame_at, settled}
+use Rattle.gaz_pool.specs.Frames.{number_of, settled}
 use Rattle.gaz_pool.proofs.Lists.{frame_read}
 use Rattle.gaz_pool.proofs.Pages.{found_filled}
 use Rattle.gaz_pool.proofs.table.Table.settle.Goals as goal
