@@ -9,3 +9,4 @@ pub mod Pages
 pub mod Reading
 pub mod Refreshing
 pub mod Round
+pub mod Writing

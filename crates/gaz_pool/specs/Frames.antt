@@ -102,6 +102,14 @@ is_beside side frame = are_apart side frame.side
 abbrev pub without_side : Side → List Frame → List Frame
 without_side side frames = filter (is_beside side) frames
 
+-- No frame of this area waits to be written.
+abbrev pub NoneWaitsIn : Area → List Frame → Type 0
+NoneWaitsIn area frames = All (λ frame. side_area frame.side ≡ area → frame.waits ≡ false) frames
+
+-- a change of areas alone of which a frame waits to be written
+abbrev pub WhereWaits : List Frame → Area → List ℕ → List ℕ → Type 0
+WhereWaits frames area d c = NoneWaitsIn area frames → c ≡ d
+
 -- No frame of this side waits to be written.
 abbrev pub NoneWaitsOf : Side → List Frame → Type 0
 NoneWaitsOf side frames = All (λ frame. is_beside side frame ≡ false → frame.waits ≡ false) frames

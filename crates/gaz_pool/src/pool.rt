@@ -2,12 +2,13 @@
 ghost use Rattle.std.specs.Prelude.{◌≡◌, ◌≢◌, ◌+◌, ◌<◌, ◌≤◌, ℕ, List, false, [], IsTrue, IfOk, OnOk, OnErr, length};
 ghost use Rattle.gaz_outside.specs.declared.station.Area.{Area};
 ghost use Rattle.gaz_outside.specs.Outside.{HasCause};
-ghost use Rattle.gaz_outside.specs.Station.{Counts};
+ghost use Rattle.gaz_outside.specs.Station.{AnyIn, Confined, Counts};
 ghost use Rattle.gaz_pool.specs.Clock.{round_of};
-ghost use Rattle.gaz_pool.specs.Frames.{number_of, pages_in, pooled, frame_at, Holds, Agrees, IsClean, NoneWaits, NoneWaitsOf, StillAgrees, PutsPage, IsAdded, TakesPlaceOfOne, refreshed, without_side};
+ghost use Rattle.gaz_pool.specs.Frames.{number_of, pages_in, pooled, frame_at, is_beside, Holds, Agrees, IsClean, NoneWaits, NoneWaitsOf, StillAgrees, WhereWaits, PutsPage, IsAdded, TakesPlaceOfOne, refreshed, without_side};
 ghost use Rattle.gaz_pool.specs.Keeps.{OnlyReads};
 ghost use Rattle.gaz_pool.specs.Numbers.{page_number};
 ghost use Rattle.gaz_pool.specs.Rooms.{most_of};
+ghost use Rattle.gaz_pool.specs.Sides.{side_area};
 ghost use Rattle.gaz_pool.specs.Table.{Has};
 
 use crate::clock::Clock;
@@ -69,6 +70,10 @@ impl FramePool {
         ensures pages { pages_in (frames_in self.new) ≡ pages_in (frames_in self.old) }
         ensures none { NoneWaits (frames_in self.old) → frames_in self.new ≡ frames_in self.old }
         ensures reads { NoneWaits (frames_in self.old) → OnlyReads (T.view station.old) (T.view station.new) }
+        // At each moment no other area changes than that of this frame.
+        ensures only { IsTrue (T.view station.old).is_told → Confined (AnyIn (side_area (frame_at (frames_in self.old) place).side)) (T.view station.old) (T.view station.new) }
+        // At each moment only an area changes of which a frame waits.
+        ensures confined { IsTrue (T.view station.old).is_told → Confined (WhereWaits (frames_in self.old)) (T.view station.old) (T.view station.new) }
         ensures room { room_in self.new ≡ room_in self.old }
         ensures counts { Counts 0 1 (T.view station.old) (T.view station.new) }
         ensures cause { HasCause (T.view station.old).faults (T.view station.new).faults result }
@@ -131,6 +136,8 @@ impl FramePool {
         ensures none { OnOk result (NoneWaits (frames_in self.old) → frame.waits ≡ false → NoneWaits (frames_in self.new)) }
         ensures asked { OnOk result (loaded_in self.new ≡ frame.bytes) }
         ensures reads { NoneWaits (frames_in self.old) → OnlyReads (T.view station.old) (T.view station.new) }
+        // At each moment only an area changes of which a frame waits.
+        ensures confined { IsTrue (T.view station.old).is_told → Confined (WhereWaits (frames_in self.old)) (T.view station.old) (T.view station.new) }
         ensures room { room_in self.new ≡ room_in self.old }
         ensures counts { Counts 0 1 (T.view station.old) (T.view station.new) }
         ensures cause { HasCause (T.view station.old).faults (T.view station.new).faults result }
@@ -162,6 +169,8 @@ impl FramePool {
         ensures fails { OnErr result (NoneWaits (frames_in self.old) → frames_in self.new ≡ frames_in self.old) }
         ensures none { OnOk result (NoneWaits (frames_in self.old) → NoneWaits (frames_in self.new)) }
         ensures reads { NoneWaits (frames_in self.old) → OnlyReads (T.view station.old) (T.view station.new) }
+        // At each moment only an area changes of which a frame waits.
+        ensures confined { IsTrue (T.view station.old).is_told → Confined (WhereWaits (frames_in self.old)) (T.view station.old) (T.view station.new) }
         ensures room { room_in self.new ≡ room_in self.old }
         ensures counts { Counts 1 1 (T.view station.old) (T.view station.new) }
         ensures cause { HasCause (T.view station.old).faults (T.view station.new).faults result }
@@ -196,6 +205,8 @@ impl FramePool {
         ensures fails { OnErr result (NoneWaits (frames_in self.old) → frames_in self.new ≡ frames_in self.old) }
         ensures none { NoneWaits (frames_in self.old) → NoneWaits (frames_in self.new) }
         ensures reads { NoneWaits (frames_in self.old) → OnlyReads (T.view station.old) (T.view station.new) }
+        // At each moment only an area changes of which a frame waits.
+        ensures confined { IsTrue (T.view station.old).is_told → Confined (WhereWaits (frames_in self.old)) (T.view station.old) (T.view station.new) }
         ensures room { room_in self.new ≡ room_in self.old }
         ensures counts { Counts 1 1 (T.view station.old) (T.view station.new) }
         ensures cause { HasCause (T.view station.old).faults (T.view station.new).faults result }
@@ -252,6 +263,8 @@ impl FramePool {
         ensures added { OnOk result ((Holds (frames_in self.old) side page → ⊥) → length (frames_in self.old) < room_in self.old → IsAdded side page (frames_in self.old) (frames_in self.new)) }
         ensures taken { OnOk result ((Holds (frames_in self.old) side page → ⊥) → room_in self.old ≤ length (frames_in self.old) → TakesPlaceOfOne side page (frames_in self.old) (frames_in self.new)) }
         ensures kept { OnErr result (pages_in (frames_in self.new) ≡ pages_in (frames_in self.old)) }
+        // At each moment only an area changes of which a frame waits.
+        ensures confined { IsTrue (T.view station.old).is_told → Confined (WhereWaits (frames_in self.old)) (T.view station.old) (T.view station.new) }
         ensures room { room_in self.new ≡ room_in self.old }
         ensures counts { Counts 0 1 (T.view station.old) (T.view station.new) }
         ensures cause { HasCause (T.view station.old).faults (T.view station.new).faults result }
@@ -273,20 +286,45 @@ impl FramePool {
         }
     }
 
+    /// Writes the frame at a place out where it is of this side and waits.
+    fn clean_of<T: Station>(
+        &mut self,
+        station: &mut T,
+        place: usize,
+        side: Side,
+    ) -> Result<(), Failed>
+        requires { place < length (frames_in self.old) }
+        ensures still { OnOk result (IsTrue (T.view station.old).is_told → Agrees (frames_in self.old) (T.view station.old).bytes
+            → StillAgrees (frames_in self.old) (T.view station.old).bytes (frames_in self.new) (T.view station.new).bytes) }
+        ensures idle { OnOk result (is_beside side (frame_at (frames_in self.new) place) ≡ false → (frame_at (frames_in self.new) place).waits ≡ false) }
+        ensures others { (other : ℕ) → other ≢ place → frame_at (frames_in self.new) other ≡ frame_at (frames_in self.old) other }
+        ensures pages { pages_in (frames_in self.new) ≡ pages_in (frames_in self.old) }
+        ensures confined { IsTrue (T.view station.old).is_told → Confined (AnyIn (side_area side)) (T.view station.old) (T.view station.new) }
+        ensures room { room_in self.new ≡ room_in self.old }
+        ensures counts { Counts 0 1 (T.view station.old) (T.view station.new) }
+        ensures cause { HasCause (T.view station.old).faults (T.view station.new).faults result }
+    {
+        if self.table.is_of(place, side) {
+            self.clean(station, place)
+        } else {
+            Ok(())
+        }
+    }
+
     /// Writes the frames of a side that wait to be written.
     pub fn flush<T: Station>(&mut self, station: &mut T, side: Side) -> Result<(), Failed>
         ensures still { OnOk result (IsTrue (T.view station.old).is_told → Agrees (frames_in self.old) (T.view station.old).bytes
             → StillAgrees (frames_in self.old) (T.view station.old).bytes (frames_in self.new) (T.view station.new).bytes) }
         ensures settled { OnOk result (NoneWaitsOf side (frames_in self.new)) }
         ensures pages { pages_in (frames_in self.new) ≡ pages_in (frames_in self.old) }
+        // At each moment no other area changes than that of the side.
+        ensures confined { IsTrue (T.view station.old).is_told → Confined (AnyIn (side_area side)) (T.view station.old) (T.view station.new) }
         ensures room { room_in self.new ≡ room_in self.old }
         ensures counts { Counts 0 (length (frames_in self.old)) (T.view station.old) (T.view station.new) }
         ensures cause { HasCause (T.view station.old).faults (T.view station.new).faults result }
     {
         for place in 0..self.table.frames.len() {
-            if self.table.is_of(place, side) {
-                self.clean(station, place)?;
-            }
+            self.clean_of(station, place, side)?;
         }
         Ok(())
     }

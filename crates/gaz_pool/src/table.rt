@@ -87,7 +87,8 @@ impl Table {
     /// Whether the frame at a place is of this side.
     pub fn is_of(&self, place: usize, side: Side) -> bool
         requires there { place < length self.now.frames.items }
-        ensures is { result ≡ false → is_beside side (frame_at self.now.frames.items place) ≡ true }
+        ensures beside { result ≡ false → is_beside side (frame_at self.now.frames.items place) ≡ true }
+        ensures own { result ≡ true → (frame_at self.now.frames.items place).side ≡ side }
     {
         !is_beside(side, &self.frames[place])
     }

@@ -1,5 +1,6 @@
-use Rattle.std.proofs.Common.{◌≡◌, ◌*◌, ◌∙◌, true, List, length, set, refl, ap, subst, sym}
-use Rattle.gaz_outside.specs.Station.{overlaid}
+use Rattle.std.proofs.Common.{ℕ, ◌≡◌, ◌*◌, ◌∙◌, true, List, length, set, refl, ap, subst, sym}
+use Rattle.gaz_outside.specs.Station.{StationView, Outcome, Leaves, Writes, AnyIn, Confined, overlaid}
+use Rattle.gaz_outside.proofs.Runs.{any_start, any_write}
 use Rattle.gaz_places.specs.Places.{found_in}
 use Rattle.gaz_pool.specs.declared.frame.Frame.{Frame}
 use Rattle.gaz_pool.specs.Sides.{side_area}
@@ -9,6 +10,7 @@ use Rattle.gaz_pool.proofs.Found.{found_once}
 use Rattle.gaz_pool.proofs.Giving.{settle_still}
 use Rattle.gaz_pool.proofs.Lists.{frame_read}
 use Rattle.gaz_pool.proofs.Pages.{filled_pages}
+use Rattle.gaz_pool.proofs.Writing.{waits_start, waits_write}
 use Rattle.gaz_pool.proofs.pool.FramePool.clean.Goals as goal
 
 -- the page is held still
@@ -39,3 +41,55 @@ returns-in-Ok-clause-still g c told agrees =
     (settle_still frames place areas new once after c.requires whole waits own
     (λ a differs. ((c.write_page.ensures.changed told).others a (λ same. differs (same ∙ ap (λ (f : Frame). side_area f.side) (sym is)))).bytes)
     agrees)
+
+-- At each moment its area alone changes.
+only_by : (old new : StationView) (frames : List Frame) (place : ℕ) (frame : Frame) → frame_at frames place ≡ frame → ((c : Outcome) → old.left_since old.moment c → Leaves old c) → Writes (side_area frame.side) (4096 * frame.page) 4096 old new
+    → Confined (AnyIn (side_area (frame_at frames place).side)) old new
+only_by old new frames place frame is now writes =
+    subst (λ (f : Frame). Confined (AnyIn (side_area f.side)) old new) (sym is)
+    (any_write old old new (side_area frame.side) (4096 * frame.page) 4096 (any_start (side_area frame.side) old now) writes)
+
+pub returns-in-Ok-clause-only : goal.returns-in-Ok-clause-only
+returns-in-Ok-clause-only g c told =
+    let view = g.T.Station.view in
+    let frames = c.args.self.now.table.frames.items in
+    let frame = c.index-frame.result.now in
+    only_by (view c.args.station.now) (view c.write_page.new.station) frames c.args.place frame (frame_read frames c.args.place frame c.requires c.index-frame.ensures)
+    (λ o left. g.met.T.Station.only_now c.args.station.now o told left) (c.write_page.ensures.changed told)
+
+pub returns-in-Err-clause-only : goal.returns-in-Err-clause-only
+returns-in-Err-clause-only g c told =
+    let view = g.T.Station.view in
+    let frames = c.args.self.now.table.frames.items in
+    let frame = c.index-frame.result.now in
+    only_by (view c.args.station.now) (view c.write_page.new.station) frames c.args.place frame (frame_read frames c.args.place frame c.requires c.index-frame.ensures)
+    (λ o left. g.met.T.Station.only_now c.args.station.now o told left) (c.write_page.ensures.changed told)
+
+pub returns-else-frame-clause-only : goal.returns-else-frame-clause-only
+returns-else-frame-clause-only g c told =
+    let last = frame_at c.args.self.now.table.frames.items c.args.place in
+    any_start (side_area last.side) (g.T.Station.view c.args.station.now) (λ o left. g.met.T.Station.only_now c.args.station.now o told left)
+
+pub returns-in-Ok-clause-confined : goal.returns-in-Ok-clause-confined
+returns-in-Ok-clause-confined g c told =
+    let view = g.T.Station.view in
+    let frames = c.args.self.now.table.frames.items in
+    let frame = c.index-frame.result.now in
+    let is : frame_at frames c.args.place ≡ frame = frame_read frames c.args.place frame c.requires c.index-frame.ensures in
+    waits_write frames c.args.place (view c.args.station.now) (view c.write_page.new.station) c.requires (ap (λ (f : Frame). f.waits) is ∙ c.if-frame.true)
+    (only_by (view c.args.station.now) (view c.write_page.new.station) frames c.args.place frame is
+    (λ o left. g.met.T.Station.only_now c.args.station.now o told left) (c.write_page.ensures.changed told))
+
+pub returns-in-Err-clause-confined : goal.returns-in-Err-clause-confined
+returns-in-Err-clause-confined g c told =
+    let view = g.T.Station.view in
+    let frames = c.args.self.now.table.frames.items in
+    let frame = c.index-frame.result.now in
+    let is : frame_at frames c.args.place ≡ frame = frame_read frames c.args.place frame c.requires c.index-frame.ensures in
+    waits_write frames c.args.place (view c.args.station.now) (view c.write_page.new.station) c.requires (ap (λ (f : Frame). f.waits) is ∙ c.if-frame.true)
+    (only_by (view c.args.station.now) (view c.write_page.new.station) frames c.args.place frame is
+    (λ o left. g.met.T.Station.only_now c.args.station.now o told left) (c.write_page.ensures.changed told))
+
+pub returns-else-frame-clause-confined : goal.returns-else-frame-clause-confined
+returns-else-frame-clause-confined g c told =
+    waits_start c.args.self.now.table.frames.items (g.T.Station.view c.args.station.now) (λ o left. g.met.T.Station.only_now c.args.station.now o told left)

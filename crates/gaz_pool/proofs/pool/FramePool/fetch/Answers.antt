@@ -8,6 +8,7 @@ use Rattle.gaz_pool.specs.Reads.{only_reads_on}
 use Rattle.gaz_pool.specs.Sides.{side_area}
 use Rattle.gaz_pool.proofs.Found.{found_once}
 use Rattle.gaz_pool.proofs.Giving.{unheld_page, gives_put}
+use Rattle.gaz_pool.proofs.Writing.{waits_read, waits_reads}
 use Rattle.gaz_pool.proofs.pool.FramePool.fetch.Goals as goal
 
 -- the page is as its area has it
@@ -48,3 +49,16 @@ pub returns-in-Ok-clause-reads : goal.returns-in-Ok-clause-reads
 returns-in-Ok-clause-reads g c none =
     let view = g.T.Station.view in
     only_reads_on (view c.args.station.now) (view c.read_page.new.station) (view c.hold.new.station) c.read_page.ensures.reads (c.hold.ensures.reads none)
+
+-- what is written is what is given up
+pub returns-in-Ok-clause-confined : goal.returns-in-Ok-clause-confined
+returns-in-Ok-clause-confined g c told =
+    let view = g.T.Station.view in
+    let reads = c.read_page.ensures.reads in
+    waits_read c.args.self.now.table.frames.items (view c.args.station.now) (view c.read_page.new.station) (view c.hold.new.station) (reads.areas told)
+    (c.hold.ensures.confined (subst IsTrue (sym reads.counts.told) told))
+
+pub returns-in-Err-clause-confined : goal.returns-in-Err-clause-confined
+returns-in-Err-clause-confined g c told =
+    let view = g.T.Station.view in
+    waits_reads c.args.self.now.table.frames.items (view c.args.station.now) (view c.read_page.new.station) (c.read_page.ensures.reads.areas told)

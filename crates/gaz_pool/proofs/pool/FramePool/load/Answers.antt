@@ -5,6 +5,7 @@ use Rattle.gaz_pool.specs.Frames.{pages_in}
 use Rattle.gaz_pool.proofs.Found.{found_once}
 use Rattle.gaz_pool.proofs.Giving.{held_page}
 use Rattle.gaz_pool.proofs.Lists.{number_at, pages_long}
+use Rattle.gaz_pool.proofs.Writing.{waits_start}
 use Rattle.gaz_pool.proofs.pool.FramePool.load.Goals as goal
 
 -- the frame that holds it has the page
@@ -22,3 +23,7 @@ returns-in-Some-clause-bytes g c told agrees =
 
 pub returns-in-None-clause-taken : goal.returns-in-None-clause-taken
 returns-in-None-clause-taken g c = on_ok_weaker c.fetch.result (λ taken isnt full. taken full) c.fetch.ensures.taken
+
+pub returns-in-Some-clause-confined : goal.returns-in-Some-clause-confined
+returns-in-Some-clause-confined g c told =
+    waits_start c.args.self.now.table.frames.items (g.T.Station.view c.args.station.now) (λ o left. g.met.T.Station.only_now c.args.station.now o told left)
