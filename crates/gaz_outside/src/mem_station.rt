@@ -124,6 +124,13 @@ impl MemStation {
         &self.text
     }
 
+    /// How many pieces of 4,096 bytes were read.
+    pub fn reads(&self) -> u64
+        ensures { result ≡ (⟦<MemStation as Station>⟧.view self.now).reads }
+    {
+        self.reads
+    }
+
     /// How many calls found no memory.
     pub fn starved(&self) -> u64
         ensures { result ≡ starved_calls self.now }
