@@ -1,5 +1,5 @@
 -- What a question to a mirror on a device promises.
-use Rattle.std.specs.Prelude.{◌≡◌, true, false, IsTrue, Option, Result}
+use Rattle.std.specs.Prelude.{true, false, IsTrue, Result}
 use Rattle.gaz_outside.specs.Station.{StationView}
 use Rattle.gaz_page.specs.declared.tree_root.Root.{Root}
 use Rattle.gaz_pages.specs.declared.extent.Extent.{Extent}
@@ -19,8 +19,7 @@ OverMirror v P = IsTrue v.is_told → (gaz : Gazetteer) → Mirrors v.bytes gaz 
 abbrev pub OverLive : Extent → Root → StationView → (Gazetteer → Type 0) → Type 0
 OverLive extent root v P = OverStore (live_view extent true false v) root P
 
--- What a question leaves: nothing is written, the mirror has its root still, and the answer has a cause.
-pub record HasRead {A : Type 0} (old new : StationView) (before now : Option Root) (result : Result A AskFault) : Type 0 where
+-- What a question leaves: nothing is written, and the answer has a cause.
+pub record HasRead {A : Type 0} (old new : StationView) (result : Result A AskFault) : Type 0 where
   pub reads : OnlyReads old new
-  pub root : now ≡ before
   pub cause : FailsOnce old.faults new.faults result

@@ -1,5 +1,5 @@
 -- Where a day begins: over the committed pages, of which none was changed yet.
-use Rattle.std.proofs.Common.{◌≡◌, ℕ, List, [], ◌++◌, refl, sym, ◌∙◌, ap, subst, Option, Result}
+use Rattle.std.proofs.Common.{◌≡◌, List, [], ◌++◌, sym, ◌∙◌, ap, subst, Option, Result}
 use Rattle.gaz_num.specs.Refusal.{Refusal}
 use Rattle.gaz_outside.specs.declared.station.Area.{Area}
 use Rattle.gaz_outside.specs.Station.{StationView}

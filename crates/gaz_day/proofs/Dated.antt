@@ -1,13 +1,13 @@
 -- A gazetteer with another date: the same pages stand for it, with a root of that date.
-use Rattle.std.proofs.Common.{◌≡◌, ℕ, true, false, List, ◌∷◌, [], Some, None, refl, sym, subst, IsTrue}
-use Rattle.std.specs.Prelude.{Contains, IsSome, Option, option_and_then}
+use Rattle.std.proofs.Common.{◌≡◌, ℕ, true, false, List, ◌∷◌, [], refl, sym, subst}
+use Rattle.std.specs.Prelude.{Contains, Option}
 use Rattle.gaz_num.specs.declared.words.Table.{Table}
 use Rattle.gaz_num.specs.declared.words.Table.TheVariants.{Rows, Alternates, Links, Countries, Codes}
-use Rattle.gaz_plain.specs.Gazetteer.{Gazetteer, IsGazetteer, IsTable, dated, lines_in, empty}
+use Rattle.gaz_plain.specs.Gazetteer.{Gazetteer, IsGazetteer, IsTable, dated, lines_in}
 use Rattle.gaz_page.specs.declared.tree_root.Root.{Root}
 use Rattle.gaz_page.specs.Pages.{PagesView}
 use Rattle.gaz_rows.specs.Index.{Slots, IsKeyOf, IsIndexed}
-use Rattle.gaz_rows.specs.Stands.{StandsFor, AreUsedOnce, value_in, places_in}
+use Rattle.gaz_rows.specs.Stands.{StandsFor, AreUsedOnce, places_in}
 use Rattle.gaz_rows.proofs.LaidStands.{are_laid_so}
 use Rattle.gaz_rows.proofs.LaidKept.{after_root}
 

@@ -1,15 +1,14 @@
 -- A day from its files to its commit: what the lines made of the changed pages is the next gazetteer, and its root may be installed.
-use Rattle.std.proofs.Common.{◌≡◌, ◌≢◌, ◌≤◌, ◌*◌, ◌⊎◌, ℕ, List, length, refl, sym, ◌∙◌, ap, subst, arith, inl, inr, Some, None, Option, Ok, Err, Result}
+use Rattle.std.proofs.Common.{◌≡◌, ◌≢◌, ◌≤◌, ◌*◌, ℕ, List, length, refl, sym, ap, subst, inr, Some, None, Option, Ok, Err, Result}
 use Rattle.std.specs.Prelude.{IfSome, IfErr, IsOk, OnOk, OnErr}
 use Rattle.gaz_num.specs.declared.words.FileName.{FileName}
 use Rattle.gaz_num.specs.Refusal.{Refusal, ◌>>=◌}
 use Rattle.gaz_outside.specs.declared.station.Area.{Area}
 use Rattle.gaz_outside.specs.Outside.{ShelfView, files_of}
-use Rattle.gaz_outside.specs.Station.{StationView, Outcome, Leaves, LeavesOnly, Confined, AnyIn, IsStable}
-use Rattle.gaz_page.specs.declared.page.Side.{Side}
+use Rattle.gaz_outside.specs.Station.{StationView, LeavesOnly, Confined, AnyIn, IsStable}
 use Rattle.gaz_page.specs.declared.tree_root.Root.{Root}
 use Rattle.gaz_page.specs.Area.{page_at}
-use Rattle.gaz_redo.specs.Slots.{Slot, SameBytes, HasNoGap, laid_in}
+use Rattle.gaz_redo.specs.Slots.{SameBytes, HasNoGap, laid_in}
 use Rattle.gaz_pages.specs.declared.changed.Changed.{Changed}
 use Rattle.gaz_pages.specs.Areas.{side_area, idle_area}
 use Rattle.gaz_pages.specs.Fits.{Fits}
@@ -21,15 +20,14 @@ use Rattle.gaz_plain.specs.Load.{Files, files_of as files_named, day, day_files,
 use Rattle.gaz_pages.specs.declared.mirror.Mirror.{Mirror}
 use Rattle.gaz_pages.specs.Held.{root_of}
 use Rattle.gaz_change.proofs.Changing.{weaker}
-use Rattle.gaz_outside.proofs.Runs.{confined_start}
 use Rattle.gaz_rows.specs.declared.fault.ChangeFault.{ChangeFault}
-use Rattle.gaz_rows.specs.declared.fault.ChangeFault.TheVariants.{NotLoaded, Sequence, Absent, Shelf, TooLong, Malformed, Full, Station, Damaged, Memory}
+use Rattle.gaz_rows.specs.declared.fault.ChangeFault.TheVariants.{Station}
 use Rattle.gaz_rows.specs.Content.{Mirrors}
 use Rattle.gaz_rows.specs.Holds.{AllHold, IsOldOrNext}
 use Rattle.gaz_rows.specs.Stands.{StandsFor}
 use Rattle.gaz_rows.specs.Store.{IsStore}
 use Rattle.gaz_rows.specs.Stepping.{HasNewCounts}
-use Rattle.gaz_change.specs.Change.{fold_named, refusal_by, Changes, Folds, Gives, IsSound, IsOfDate, IsOutside, IsFaultOfFiles}
+use Rattle.gaz_change.specs.Change.{fold_named, refusal_by, Changes, Folds, IsSound, IsOfDate}
 use Rattle.gaz_install.specs.Next.{MayCommit, IsNext, IsInstallFault}
 use Rattle.gaz_install.proofs.Idle.{fits_still, holds_still}
 use Rattle.gaz_install.proofs.Named.{StandsThere, reads_idle, mirrored, as_it_reads}

@@ -21,10 +21,11 @@ ghost use Rattle.gaz_day.specs.Order.{IsInOrder};
 ghost use Rattle.gaz_change.specs.Change.{refusal_by, fold_named, Changes, Folds, IsSound, IsOutside, IsFaultOfFiles, IsOfDate, FailsOnce, LeavesShelf, AreOpen, AreThere, Blamed, BlamesReached, lines_of};
 
 use gaz_change::{MOST_FILES, files_of_day, fold_files, follow, open_files};
+use gaz_framed::PagedStation;
 use gaz_install::install;
 use gaz_lines::LineCutter;
 use gaz_num::{Day, FileName};
-use gaz_outside::{Shelf, Station};
+use gaz_outside::Shelf;
 use gaz_page::Root;
 use gaz_pages::{Changed, DayPages, Mirror};
 use gaz_redo::Images;
@@ -32,7 +33,7 @@ use gaz_rows::{ChangeFault, RowStore};
 use std::alloc::Global;
 
 /// Steps the lines of open files into a store over the pages of a day. What is lent to these pages stays lent to them.
-fn fold_pages<F: Shelf, T: Station>(
+fn fold_pages<F: Shelf, T: PagedStation>(
     alloc: Global,
     store: &mut RowStore<DayPages<'_, T>>,
     shelf: &mut F,
@@ -45,14 +46,12 @@ fn fold_pages<F: Shelf, T: Station>(
     requires there { IfSome (files_of (F.view shelf.old)) (λ files. AreThere files names.now) }
     requires line_limit { line_limit_of cutter.old ≡ 65535 }
     requires file_limit { file_limit_of cutter.old ≡ 2 ^ 40 }
-    ensures mirror { store.new.pages.mirror.ghost_name ≡ store.old.pages.mirror.ghost_name }
     ensures station { store.new.pages.station.ghost_name ≡ store.old.pages.station.ghost_name }
     ensures changed { store.new.pages.changed.ghost_name ≡ store.old.pages.changed.ghost_name }
     ensures folds { IsTrue (T.view store.old.pages.station.now).is_told → (gaz : Gazetteer) → IsStore gaz (held_view (side_area store.old.pages.extent.side) store.old.pages.changed.now (T.view store.old.pages.station.now)) store.old.root
         → Folds (files_of (F.view shelf.new)) (λ files. fold_named files names.now gaz) gaz (held_view (side_area store.old.pages.extent.side) store.new.pages.changed.now (T.view store.new.pages.station.now)) store.new.root result }
     ensures still { IsTrue (T.view store.old.pages.station.now).is_told → StillChanged (side_area store.old.pages.extent.side) store.old.pages.extent.fresh store.old.pages.changed.now store.new.pages.changed.now ((T.view store.old.pages.station.now).bytes (side_area store.old.pages.extent.side)) }
     ensures reads { OnlyReads (T.view store.old.pages.station.now) (T.view store.new.pages.station.now) }
-    ensures mirror_root { root_of store.new.pages.mirror.now ≡ root_of store.old.pages.mirror.now }
     ensures root { HasNewCounts store.old.root store.new.root }
     ensures low { store.old.root.height ≤ 6 → store.new.root.height ≤ 6 }
     ensures few { OnOk result (store.old.root.height ≤ 6 → IfSome (files_of (F.view shelf.new)) (λ files. length (all_images store.new.pages.changed.now) ≤ length (all_images store.old.pages.changed.now) + 320 * lines_of files names.now)) }
@@ -69,9 +68,8 @@ fn fold_pages<F: Shelf, T: Station>(
 
 /// Steps the lines of the open files of a day into the pages that the mirror's root names. `now` is that root with the new date, and after
 /// `Ok` what became of it.
-fn fold_day<F: Shelf, T: Station>(
+fn fold_day<F: Shelf, T: PagedStation>(
     alloc: Global,
-    mirror: &mut Mirror,
     station: &mut T,
     changed: &mut Changed,
     root: Root,
@@ -81,7 +79,6 @@ fn fold_day<F: Shelf, T: Station>(
     names: &[FileName],
     numbers: &[u64],
 ) -> Result<(), ChangeFault>
-    requires root { root_of mirror.old ≡ Some root }
     requires none { (changed.old.images ≡ []) × (changed.old.past ≡ []) }
     requires ends { (changed.old.fresh ≡ root.fresh) × (changed.old.free ≡ root.free) }
     requires same { (now.old.fresh ≡ root.fresh) × (now.old.free ≡ root.free) }
@@ -94,7 +91,6 @@ fn fold_day<F: Shelf, T: Station>(
         → Folds (files_of (F.view shelf.new)) (λ files. fold_named files names.now gaz) gaz (held_view (side_area root.side) changed.new (T.view station.new)) now.new result }
     ensures changed { IsTrue (T.view station.old).is_told → AreChanged (side_area root.side) root.fresh changed.new ((T.view station.old).bytes (side_area root.side)) }
     ensures reads { OnlyReads (T.view station.old) (T.view station.new) }
-    ensures mirror { root_of mirror.new ≡ root_of mirror.old }
     ensures root_now { HasNewCounts now.old now.new }
     ensures low { now.old.height ≤ 6 → now.new.height ≤ 6 }
     ensures few { OnOk result (now.old.height ≤ 6 → IfSome (files_of (F.view shelf.new)) (λ files. length (all_images changed.new) ≤ 320 * lines_of files names.now)) }
@@ -106,7 +102,7 @@ fn fold_day<F: Shelf, T: Station>(
     ensures line_limit { line_limit_of cutter.new ≡ line_limit_of cutter.old }
     ensures file_limit { file_limit_of cutter.new ≡ file_limit_of cutter.old }
 {
-    let pages = DayPages::new(mirror, station, root, changed);
+    let pages = DayPages::new(station, root, changed);
     let mut store = RowStore::over(pages, *now);
     let result = fold_pages(alloc, &mut store, shelf, cutter, names, numbers);
     *now = *store.root();
@@ -114,7 +110,7 @@ fn fold_day<F: Shelf, T: Station>(
 }
 
 /// Applies the day of open files to a mirror with this root: what the lines change is committed with the root page of the date.
-fn apply_opened<F: Shelf, T: Station>(
+fn apply_opened<F: Shelf, T: PagedStation>(
     alloc: Global,
     mirror: &mut Mirror,
     shelf: &mut F,
@@ -154,7 +150,6 @@ fn apply_opened<F: Shelf, T: Station>(
     let mut now = Root { day: date, ..root };
     match fold_day(
         alloc,
-        mirror,
         station,
         &mut changed,
         root,
@@ -173,7 +168,7 @@ fn apply_opened<F: Shelf, T: Station>(
 }
 
 /// Opens the files of a day, and applies it to a mirror with this root.
-fn open_and_apply<F: Shelf, T: Station>(
+fn open_and_apply<F: Shelf, T: PagedStation>(
     alloc: Global,
     mirror: &mut Mirror,
     shelf: &mut F,
@@ -216,7 +211,7 @@ fn open_and_apply<F: Shelf, T: Station>(
 /// Applies a day: its lines are stepped into the pages of the mirror, and the changed ones are committed with the root page of its date.
 /// It prints nothing. After `Station` and `Damaged` the mirror isn't used again; after another refusal all is as before, but that the shelf
 /// may have found other files.
-pub fn apply<F: Shelf, T: Station>(
+pub fn apply<F: Shelf, T: PagedStation>(
     alloc: Global,
     mirror: &mut Mirror,
     shelf: &mut F,

@@ -1,28 +1,18 @@
 -- A load before its first call, and one said by other words.
-use Rattle.std.proofs.Common.{◌≡◌, ◌⊎◌, ℕ, List, refl, sym, ◌∙◌, subst, inl, inr, Option, Ok, Err, Result}
-use Rattle.std.specs.Prelude.{IfSome}
+use Rattle.std.proofs.Common.{◌≡◌, ℕ, List, sym, subst, Option, Ok, Err, Result}
 use Rattle.gaz_num.specs.Refusal.{Refusal}
 use Rattle.gaz_outside.specs.declared.station.Area.{Area}
-use Rattle.gaz_outside.specs.Outside.{ShelfView, files_of}
-use Rattle.gaz_outside.specs.Station.{StationView, Outcome, Leaves}
-use Rattle.gaz_outside.proofs.Runs.{confined_start}
+use Rattle.gaz_outside.specs.Station.{StationView}
 use Rattle.gaz_page.specs.declared.page.Side.{Side}
 use Rattle.gaz_page.specs.declared.tree_root.Root.{Root}
 use Rattle.gaz_page.specs.Pages.{PagesView}
-use Rattle.gaz_redo.specs.Slots.{SameBytes}
 use Rattle.gaz_pages.specs.declared.changed.Changed.{Changed}
 use Rattle.gaz_pages.specs.Areas.{side_area}
-use Rattle.gaz_pages.specs.Fits.{Fits}
 use Rattle.gaz_pages.specs.Views.{held_view, AreChanged, StillChanged}
 use Rattle.gaz_plain.specs.Gazetteer.{Gazetteer}
-use Rattle.gaz_plain.specs.Load.{Files}
 use Rattle.gaz_rows.specs.declared.fault.ChangeFault.{ChangeFault}
-use Rattle.gaz_rows.specs.Holds.{AllHold}
 use Rattle.gaz_rows.specs.Store.{IsStore}
-use Rattle.gaz_change.specs.Change.{refusal_by, Changes, Folds, Gives}
-use Rattle.gaz_change.proofs.Changing.{weaker}
-use Rattle.gaz_install.proofs.Named.{reads_idle}
-use Rattle.gaz_install.proofs.Whole.{ended}
+use Rattle.gaz_change.specs.Change.{Folds}
 use Rattle.gaz_load.specs.Root.{FoldsToRoot}
 
 -- what lines made of a store, by its answer

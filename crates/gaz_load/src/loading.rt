@@ -20,6 +20,7 @@ ghost use Rattle.gaz_load.specs.Root.{FoldsToRoot, IsOfPages, done_of, fault_of}
 ghost use Rattle.gaz_change.specs.Change.{fold_named, Changes, Folds, IsSound, IsOutside, IsFaultOfFiles, IsOfDate, FailsOnce, AreOpen, AreThere, Blamed, BlamesReached, NoneOpen};
 
 use gaz_change::{MOST_FILES, files_of_load, fold_files, open_files};
+use gaz_framed::PagedStation;
 use gaz_install::{install_prepared, prepare};
 use gaz_lines::LineCutter;
 use gaz_num::{Day, FileName};
@@ -43,13 +44,12 @@ fn of_pages(fault: AskFault) -> ChangeFault
 
 /// The root of a new store without lines, over pages of the idle area of which none was taken. What is lent to these pages stays lent to
 /// them.
-fn empty_pages<T: Station>(
+fn empty_pages<T: PagedStation>(
     pages: &mut IdlePages<'_, T>,
     side: Side,
     date: Day,
 ) -> Result<Root, ChangeFault>
     requires ends { (pages.old.changed.now.fresh ≡ 1) × (pages.old.changed.now.free ≡ 0) }
-    ensures mirror { pages.new.mirror.ghost_name ≡ pages.old.mirror.ghost_name }
     ensures station { pages.new.station.ghost_name ≡ pages.old.station.ghost_name }
     ensures changed { pages.new.changed.ghost_name ≡ pages.old.changed.ghost_name }
     ensures store { IfOk result (λ root. IsTrue (T.view pages.old.station.now).is_told
@@ -58,7 +58,6 @@ fn empty_pages<T: Station>(
     ensures same_side { pages.new.side ≡ pages.old.side }
     ensures still { IsTrue (T.view pages.old.station.now).is_told → StillChanged (side_area pages.old.side) 1 pages.old.changed.now pages.new.changed.now ((T.view pages.old.station.now).bytes (side_area pages.old.side)) }
     ensures reads { OnlyReads (T.view pages.old.station.now) (T.view pages.new.station.now) }
-    ensures mirror_root { root_of pages.new.mirror.now ≡ root_of pages.old.mirror.now }
     ensures faults { FailsOnce (T.view pages.old.station.now).faults (T.view pages.new.station.now).faults (done_of result) }
     ensures of_pages { IfErr result IsOfPages }
     ensures sound { IfErr result (λ fault. IsTrue (T.view pages.old.station.now).is_told → IsSound fault) }
@@ -70,7 +69,7 @@ fn empty_pages<T: Station>(
 }
 
 /// Steps the lines of open files into a store over pages of the idle area. What is lent to these pages stays lent to them.
-fn fold_pages<F: Shelf, T: Station>(
+fn fold_pages<F: Shelf, T: PagedStation>(
     alloc: Global,
     store: &mut RowStore<IdlePages<'_, T>>,
     shelf: &mut F,
@@ -83,14 +82,12 @@ fn fold_pages<F: Shelf, T: Station>(
     requires there { IfSome (files_of (F.view shelf.old)) (λ files. AreThere files names.now) }
     requires line_limit { line_limit_of cutter.old ≡ 65535 }
     requires file_limit { file_limit_of cutter.old ≡ 2 ^ 40 }
-    ensures mirror { store.new.pages.mirror.ghost_name ≡ store.old.pages.mirror.ghost_name }
     ensures station { store.new.pages.station.ghost_name ≡ store.old.pages.station.ghost_name }
     ensures changed { store.new.pages.changed.ghost_name ≡ store.old.pages.changed.ghost_name }
     ensures folds { IsTrue (T.view store.old.pages.station.now).is_told → (gaz : Gazetteer) → IsStore gaz (held_view (side_area store.old.pages.side) store.old.pages.changed.now (T.view store.old.pages.station.now)) store.old.root
         → Folds (files_of (F.view shelf.new)) (λ files. fold_named files names.now gaz) gaz (held_view (side_area store.old.pages.side) store.new.pages.changed.now (T.view store.new.pages.station.now)) store.new.root result }
     ensures still { IsTrue (T.view store.old.pages.station.now).is_told → StillChanged (side_area store.old.pages.side) 1 store.old.pages.changed.now store.new.pages.changed.now ((T.view store.old.pages.station.now).bytes (side_area store.old.pages.side)) }
     ensures reads { OnlyReads (T.view store.old.pages.station.now) (T.view store.new.pages.station.now) }
-    ensures mirror_root { root_of store.new.pages.mirror.now ≡ root_of store.old.pages.mirror.now }
     ensures root { HasNewCounts store.old.root store.new.root }
     ensures faults { FailsOnce (T.view store.old.pages.station.now).faults (T.view store.new.pages.station.now).faults result }
     ensures at { IfErr result (IsFaultOfFiles names.now) }
@@ -104,9 +101,8 @@ fn fold_pages<F: Shelf, T: Station>(
 }
 
 /// Steps the lines of the open files of a load into a new store over the idle area, and answers its root.
-fn fold_load<F: Shelf, T: Station>(
+fn fold_load<F: Shelf, T: PagedStation>(
     alloc: Global,
-    mirror: &mut Mirror,
     station: &mut T,
     changed: &mut Changed,
     side: Side,
@@ -116,7 +112,6 @@ fn fold_load<F: Shelf, T: Station>(
     names: &[FileName],
     numbers: &[u64],
 ) -> Result<Root, ChangeFault>
-    requires side { side_area side ≡ idle_area (root_of mirror.old) }
     requires none { (changed.old.images ≡ []) × (changed.old.past ≡ []) }
     requires ends { (changed.old.fresh ≡ 1) × (changed.old.free ≡ 0) }
     requires laid { (area : Area) (bytes : List ℕ) → AreChanged area 1 changed.old bytes }
@@ -129,7 +124,6 @@ fn fold_load<F: Shelf, T: Station>(
     ensures side { IfOk result (λ root. root.side ≡ side) }
     ensures changed { IsTrue (T.view station.old).is_told → AreChanged (side_area side) 1 changed.new ((T.view station.old).bytes (side_area side)) }
     ensures reads { OnlyReads (T.view station.old) (T.view station.new) }
-    ensures mirror { root_of mirror.new ≡ root_of mirror.old }
     ensures faults { FailsOnce (T.view station.old).faults (T.view station.new).faults (done_of result) }
     ensures dateless { IfErr result (λ fault. IsOfDate fault → ⊥) }
     ensures reached { IfSome (files_of (F.view shelf.new)) (λ files. BlamesReached files names.now result) }
@@ -138,7 +132,7 @@ fn fold_load<F: Shelf, T: Station>(
     ensures line_limit { line_limit_of cutter.new ≡ line_limit_of cutter.old }
     ensures file_limit { file_limit_of cutter.new ≡ file_limit_of cutter.old }
 {
-    let mut pages = IdlePages::new(mirror, station, side, changed);
+    let mut pages = IdlePages::new(station, side, changed);
     let root = match empty_pages(&mut pages, side, date) {
         Ok(root) => root,
         Err(fault) => return Err(fault),
@@ -199,7 +193,7 @@ fn commit_load<T: Station>(
 }
 
 /// Loads open files: the pages of the new store are written into the idle area and synced, and then the root page alone is committed.
-fn load_opened<F: Shelf, T: Station>(
+fn load_opened<F: Shelf, T: PagedStation>(
     alloc: Global,
     mirror: &mut Mirror,
     shelf: &mut F,
@@ -236,7 +230,6 @@ fn load_opened<F: Shelf, T: Station>(
     let mut changed = Changed::over(alloc, Images::new(alloc), 1, 0);
     let root = match fold_load(
         alloc,
-        mirror,
         station,
         &mut changed,
         side,
@@ -253,7 +246,7 @@ fn load_opened<F: Shelf, T: Station>(
 }
 
 /// Opens the files of a load, and loads them.
-fn open_and_load<F: Shelf, T: Station>(
+fn open_and_load<F: Shelf, T: PagedStation>(
     alloc: Global,
     mirror: &mut Mirror,
     shelf: &mut F,
@@ -293,7 +286,7 @@ fn open_and_load<F: Shelf, T: Station>(
 /// Loads a dump: its lines are stored in the area that isn't in use, and the root page that names them is committed. It prints nothing. It
 /// never answers `NotLoaded`, nor `Sequence`. After `Station` the mirror isn't used again; after another refusal all is as before, but that the
 /// shelf may have found other files.
-pub fn load<F: Shelf, T: Station>(
+pub fn load<F: Shelf, T: PagedStation>(
     alloc: Global,
     mirror: &mut Mirror,
     shelf: &mut F,

@@ -1,5 +1,5 @@
 -- What the pages of a device tell.
-use Rattle.std.specs.Prelude.{ℕ, Bool, true, false, List, ◌++◌, length}
+use Rattle.std.specs.Prelude.{ℕ, Bool, false, List, ◌++◌, length}
 use Rattle.gaz_outside.specs.declared.station.Area.{Area}
 use Rattle.gaz_outside.specs.Station.{StationView}
 use Rattle.gaz_pages.specs.declared.extent.Extent.{Extent}

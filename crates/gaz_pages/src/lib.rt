@@ -1,7 +1,7 @@
 //! Pages of a mirror on a device: the committed ones, those of a day with what it changed on top, and those of the area that isn't in use.
-//! All three are `Pages` over any station, and none writes to it: changed pages stay in memory, as images, until they are committed.
-//! What the images hold, laid over the area, is what the pages tell, and leaves no gap; a call that fails says why.
-//! A `Mirror` has the root, which a root page says, and the one buffer by which pages are read.
+//! All three are `Pages` over any station that holds pages, and none writes to it: changed pages stay in memory, as images, until they are
+//! committed. What the images hold, laid over the area, is what the pages tell, and leaves no gap; a call that fails says why.
+//! A `Mirror` has the root, which a root page says.
 //! `Changed::finish` writes the images in their places, in an area that no root names, and syncs it.
 #![tactic(auto)]
 

@@ -1,4 +1,4 @@
-use Rattle.std.proofs.Common.{◌≤◌, ◌+◌, ◌*◌, ◌∙◌, ap, subst, rules}
+use Rattle.std.proofs.Common.{◌≤◌, ◌+◌, ◌∙◌, ap, subst, rules}
 use Rattle.gaz_outside.specs.Station.{StationView}
 use Rattle.gaz_pages.specs.Held.{root_of}
 use Rattle.gaz_kin.proofs.Answered.{if_ok, if_err}

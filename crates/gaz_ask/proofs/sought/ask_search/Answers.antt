@@ -15,7 +15,6 @@ fails_once old new (Err Memory) s = s.1.cause.counted
 
 pub returns-clause-leaves : goal.returns-clause-leaves
 returns-clause-leaves g c = record {
-  reads = c.search.ensures.keeps.4;
-  root = c.search.ensures.keeps.3;
+  reads = c.search.ensures.keeps.2;
   cause = fails_once _ _ c.search.result c.search.ensures.asked;
 }

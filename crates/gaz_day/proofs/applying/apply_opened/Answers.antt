@@ -1,19 +1,14 @@
-use Rattle.std.proofs.Common.{inr, ◌≡◌, ◌≢◌, ◌≤◌, ◌*◌, ◌+◌, ◌∙◌, ◌++◌, ℕ, List, length, Some, Ok, Option, IsTrue, refl, sym, ap, subst, arith}
+use Rattle.std.proofs.Common.{inr, ◌≡◌, ◌≤◌, ◌*◌, ◌++◌, List, length, Ok, Option, IsTrue, sym, ap, subst, arith}
 use Rattle.std.specs.Prelude.{IfSome, IfErr, Result, Err}
 use Rattle.std.proofs.lemmas.List.{length-append}
 use Rattle.gaz_num.specs.declared.words.FileName.{FileName}
-use Rattle.gaz_outside.specs.declared.station.Area.{Area}
 use Rattle.gaz_outside.specs.Outside.{files_of}
-use Rattle.gaz_outside.specs.Station.{StationView, LeavesOnly}
 use Rattle.gaz_page.specs.declared.tree_root.Root.{Root}
 use Rattle.gaz_page.specs.TreeRoot.{FitsRoot}
 use Rattle.gaz_redo.specs.Slots.{Slot}
 use Rattle.gaz_pages.specs.Fits.{Fits}
-use Rattle.gaz_pages.specs.Held.{root_of}
 use Rattle.gaz_plain.specs.Gazetteer.{Gazetteer}
-use Rattle.gaz_plain.specs.Load.{day_files}
 use Rattle.gaz_rows.specs.declared.fault.ChangeFault.{ChangeFault}
-use Rattle.gaz_rows.specs.Holds.{AllHold, IsOldOrNext}
 use Rattle.gaz_change.specs.Change.{AreThere, lines_of}
 use Rattle.gaz_change.proofs.Changing.{weaker}
 use Rattle.gaz_install.specs.Next.{MayCommit, IsNext, IsInstallFault}
@@ -41,7 +36,7 @@ returns-in-Err-clause-fits g c told outside =
     let v0 = g.T.Station.view c.args.station.now in
     let v1 = g.T.Station.view c.fold_day.new.station in
     let fits = subst (λ (o : Option Root). Fits o v0) c.requires.root (c.requires.fits told) in
-    subst (λ (o : Option Root). Fits o v1) (sym (c.fold_day.ensures.mirror ∙ c.requires.root))
+    subst (λ (o : Option Root). Fits o v1) (sym c.requires.root)
     (fits_now c.args.root c.args.date v0 v1 c.fold_day.new.changed c.fold_day.new.now fits (c.fold_day.ensures.reads.areas told) (c.fold_day.ensures.changed told) c.fold_day.ensures.root_now)
 
 pub returns-in-Err-clause-damaged : goal.returns-in-Err-clause-damaged
@@ -62,7 +57,7 @@ install-requires-clause-fits g c told_now =
     let v1 = g.T.Station.view c.fold_day.new.station in
     let told = subst IsTrue c.fold_day.ensures.reads.counts.told told_now in
     let fits = subst (λ (o : Option Root). Fits o v0) c.requires.root (c.requires.fits told) in
-    subst (λ (o : Option Root). Fits o v1) (sym (c.fold_day.ensures.mirror ∙ c.requires.root))
+    subst (λ (o : Option Root). Fits o v1) (sym c.requires.root)
     (fits_now c.args.root c.args.date v0 v1 c.fold_day.new.changed c.fold_day.new.now fits (c.fold_day.ensures.reads.areas told) (c.fold_day.ensures.changed told) c.fold_day.ensures.root_now)
 
 pub install-requires-clause-pages : goal.install-requires-clause-pages
@@ -106,10 +101,10 @@ returns-clause-fits g c told outside =
     let told_now = subst IsTrue (sym c.fold_day.ensures.reads.counts.told) told in
     let fits = subst (λ (o : Option Root). Fits o v0) c.requires.root (c.requires.fits told) in
     let result = c.install.result in
-    let before = subst (λ (o : Option Root). Fits o v1) (sym (c.fold_day.ensures.mirror ∙ c.requires.root))
+    let before = subst (λ (o : Option Root). Fits o v1) (sym c.requires.root)
     (fits_now c.args.root c.args.date v0 v1 c.fold_day.new.changed c.fold_day.new.now fits (c.fold_day.ensures.reads.areas told) (c.fold_day.ensures.changed told) c.fold_day.ensures.root_now) in
     after_outside result _ outside (on_ok result _ _ (λ f. f told_now) c.install.ensures.fits)
-    (still_fits g.T.Station.view c.fold_day.new.station c.install.new.station c.fold_day.new.mirror c.install.new.mirror result c.install.ensures.untouched c.install.ensures.kept before)
+    (still_fits g.T.Station.view c.fold_day.new.station c.install.new.station c.args.mirror.now c.install.new.mirror result c.install.ensures.untouched c.install.ensures.kept before)
 
 pub returns-clause-damaged : goal.returns-clause-damaged
 returns-clause-damaged g c =

@@ -1,4 +1,4 @@
-use Rattle.std.proofs.Common.{◌≡◌, ◌∙◌, IsTrue, sym, ap, subst, rules}
+use Rattle.std.proofs.Common.{◌∙◌, IsTrue, sym, ap, subst, rules}
 use Rattle.gaz_outside.specs.Outside.{files_of}
 use Rattle.gaz_change.specs.Change.{fold_named}
 use Rattle.gaz_pages.specs.Areas.{side_area}

@@ -12,4 +12,4 @@ pub returns-clause-folds : goal.returns-clause-folds
 returns-clause-folds g c told gaz is =
     let new = c.fold_files.new.store in
     subst (λ (s : Side). Folds (files_of (g.F.Shelf.view c.fold_files.new.shelf)) (λ files. fold_named files c.args.names.now gaz) gaz (held_view (side_area s) new.pages.changed.now (g.T.Station.view new.pages.station.now)) new.root c.fold_files.result)
-    (ap (λ (e : Extent). e.side) c.fold_files.ensures.keeps.2) (c.fold_files.ensures.folds told gaz is)
+    (ap (λ (e : Extent). e.side) c.fold_files.ensures.keeps.1) (c.fold_files.ensures.folds told gaz is)

@@ -1,10 +1,8 @@
-use Rattle.std.proofs.Common.{◌∙◌, List, [], IsTrue, sym, ap, subst}
+use Rattle.std.proofs.Common.{◌∙◌, [], IsTrue, sym, ap, subst}
 use Rattle.gaz_page.specs.declared.tree_root.Root.{Root}
-use Rattle.gaz_redo.specs.Slots.{Slot}
-use Rattle.gaz_pages.specs.Fits.{Fits}
 use Rattle.gaz_pages.specs.Held.{root_of}
 use Rattle.gaz_install.specs.Next.{MayCommit, IsNext, with_root}
-use Rattle.gaz_install.proofs.ByKind.{named_ends, on_ok}
+use Rattle.gaz_install.proofs.ByKind.{named_ends}
 use Rattle.gaz_install.proofs.Moments.{none_moves}
 use Rattle.gaz_load.proofs.Stored.{finish_run, finish_fits, finish_holds, finish_moments, commit_moments, finish_may_commit, finish_is_next}
 use Rattle.gaz_load.proofs.loading.commit_load.Goals as goal

@@ -1,11 +1,9 @@
-use Rattle.std.proofs.Common.{◌≡◌, inr, List, Ok, Err, Option, IsTrue, sym, subst}
+use Rattle.std.proofs.Common.{◌≡◌, inr, List, Ok, Err, IsTrue, sym, subst}
 use Rattle.std.specs.Prelude.{IfSome}
 use Rattle.gaz_num.specs.declared.words.FileName.{FileName}
 use Rattle.gaz_outside.specs.Outside.{files_of}
 use Rattle.gaz_page.specs.declared.page.Side.{Side}
-use Rattle.gaz_page.specs.declared.tree_root.Root.{Root}
 use Rattle.gaz_pages.specs.Areas.{side_area}
-use Rattle.gaz_pages.specs.Fits.{Fits}
 use Rattle.gaz_pages.specs.Held.{root_of}
 use Rattle.gaz_pages.specs.Views.{held_view}
 use Rattle.gaz_plain.specs.Gazetteer.{Gazetteer, dated, empty}
@@ -34,8 +32,7 @@ commit_load-requires-clause-fits g c told_now =
     let v0 = g.T.Station.view c.args.station.now in
     let v1 = g.T.Station.view c.fold_load.new.station in
     let told = subst IsTrue c.fold_load.ensures.reads.counts.told told_now in
-    subst (λ (o : Option Root). Fits o v1) (sym c.fold_load.ensures.mirror)
-    (fold_fits (root_of c.args.mirror.now) v0 v1 (c.requires.fits told) (c.fold_load.ensures.reads.areas told))
+    fold_fits (root_of c.args.mirror.now) v0 v1 (c.requires.fits told) (c.fold_load.ensures.reads.areas told)
 
 -- the commit was made, or it failed
 pub returns-clause-changes : goal.returns-clause-changes

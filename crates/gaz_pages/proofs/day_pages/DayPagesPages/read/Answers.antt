@@ -14,7 +14,7 @@ returns-then-has g c =
     let station = c.args.self.now.station.now in
     let changed = c.args.self.now.changed.now in
     let file = (view station).bytes (side_area c.args.self.now.extent.side) in (
-      (refl, λ _. tt, ((refl, refl, refl, refl, refl, λ told are. are, only_reads_start (view station) (λ told o left. g.met.T.Station.only_now station o told left)), reads_none _ _)),
+      (refl, λ _. tt, ((refl, refl, refl, λ told are. are, only_reads_start (view station) (λ told o left. g.met.T.Station.only_now station o told left)), reads_none _ _)),
       record {
         size = c.image.ensures.size;
         bytes = λ told. subst (λ (a : Area). c.image.result.now ≡ imaged a (all_images changed) file c.args.page) c.area_of.ensures (c.image.ensures.page file);

@@ -14,8 +14,6 @@ returns-clause-keeps g c =
       refl,
       refl,
       refl,
-      refl,
-      refl,
       λ told. subst (λ (a : Area). StillChanged a c.args.self.now.extent.fresh c.args.self.now.changed.now c.put.new.self file) c.area_of-area.ensures (c.put.ensures.still c.args.self.now.extent.fresh file),
       only_reads_start (view station) (λ told o left. g.met.T.Station.only_now station o told left),
     )

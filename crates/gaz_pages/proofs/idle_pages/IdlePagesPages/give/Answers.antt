@@ -14,8 +14,6 @@ returns-clause-keeps g c =
       refl,
       refl,
       refl,
-      refl,
-      refl,
       λ told. subst (λ (a : Area). StillChanged a 1 c.args.self.now.changed.now c.give.new.self file) c.area_of-area.ensures (c.give.ensures.still 1 file),
       only_reads_start (view station) (λ told o left. g.met.T.Station.only_now station o told left),
     )

@@ -6,4 +6,4 @@ use Rattle.gaz_pages.proofs.live_pages.LivePagesPages.write.Goals as goal
 pub returns-clause-keeps : goal.returns-clause-keeps
 returns-clause-keeps g c =
     let station = c.args.self.now.station.now in
-    (refl, refl, refl, refl, only_reads_start (g.T.Station.view station) (λ told o left. g.met.T.Station.only_now station o told left))
+    (refl, refl, only_reads_start (g.T.Station.view station) (λ told o left. g.met.T.Station.only_now station o told left))
