@@ -1,9 +1,9 @@
 -- What a stop leaves of a mirror while it is opened.
-use Rattle.std.proofs.Common.{◌≡◌, ◌⊎◌, inl, inr, ◌+◌, ◌-◌, ◌*◌, ◌<◌, ◌≤◌, min, ℕ, Bool, true, false, length, take, arith, List, refl, sym, ◌∙◌, ap, subst, Option, Some, None}
+use Rattle.std.proofs.Common.{◌≡◌, ◌⊎◌, inl, inr, ◌-◌, ◌≤◌, min, ℕ, Bool, true, false, length, take, arith, List, refl, sym, ◌∙◌, ap, subst, Option, Some, None}
 use Rattle.std.proofs.lemmas.List.{take_all}
 use Rattle.gaz_outside.specs.declared.station.Area.{Area}
 use Rattle.gaz_outside.specs.declared.station.Area.TheVariants as area
-use Rattle.gaz_outside.specs.Station.{StationView, Outcome, Leaves, LeavesOnly, Confined, Counts}
+use Rattle.gaz_outside.specs.Station.{StationView, Outcome, Leaves, LeavesOnly, Confined}
 use Rattle.gaz_outside.proofs.Runs.{leaves_weaker, goes_far}
 use Rattle.gaz_plain.specs.Gazetteer.{Gazetteer}
 use Rattle.gaz_page.specs.declared.tree_root.Root.{Root}
@@ -18,7 +18,7 @@ use Rattle.gaz_redo.specs.Recovered.{AllStable, StandsFor, IsRedone, SlotsToRedo
 use Rattle.gaz_pages.specs.Areas.{side_area}
 use Rattle.gaz_pages.specs.Fits.{Fits, HasStable, Names}
 use Rattle.gaz_rows.specs.Content.{Mirrors, HasGaz}
-use Rattle.gaz_rows.specs.Holds.{AllHold, HasNone, SameMirror, IsFound, IsStill}
+use Rattle.gaz_rows.specs.Holds.{AllHold, HasNone, IsFound, IsStill}
 use Rattle.gaz_open.specs.Opens.{HasNoLog, IsSettled, NothingToRedo}
 use Rattle.gaz_open.proofs.Mirrored.{same_content, same_areas}
 

@@ -19,6 +19,7 @@ use Rattle.gaz_turns.specs.Turns.{State, Turn, Verdict, plain, memory, shelf, is
 use Rattle.gaz_turns.specs.Head.{HoldsAcked, Keeps, IsFoundOrStop, IsExit}
 use Rattle.gaz_turns.proofs.Told.{same_printed}
 use Rattle.gaz_turns.proofs.Underway.{from_open}
+use Rattle.gaz_serve.specs.Bounds.{OpensReadsWithin, OpensWritesWithin, most_read_in, most_written_in}
 use Rattle.gaz_serve.specs.Ran.{is_memory, memory_refusals, asked, RisesBy, IsUnwritten, RunAnswers, IsAnswered}
 use Rattle.gaz_serve.proofs.Lines.{unread}
 use Rattle.gaz_serve.proofs.Taken.{answered_nothing}
@@ -54,12 +55,14 @@ module _ (first : State) (bytes bytes_now : Option (List ℕ)) (source source_no
   abbrev Failed : Type 0
   Failed = HasRisen source source_now ⊎ HasRisen shelf.faults shelf_now.faults ⊎ HasRisen station.faults station_now.faults
 
-  pub answered : (run : RunAnswers first bytes bytes_now shelf shelf_now station station_now status)
+  pub answered : (run : RunAnswers first bytes bytes_now shelf shelf_now station station_now status) → OpensReadsWithin (most_read_in first run.turns) station station_now → OpensWritesWithin (most_written_in first run.turns) station station_now
       → (IsTrue station.is_told → LeavesOnly station station_now (IsFoundOrStop (record { first = first; turns = run.turns }) station))
       → (unopened ⊎ (IsTrue station.is_told → IsExit (record { first = first; turns = run.turns }) station_now run.text status)) → (status ≡ 3 → RisesOnce station.faults station_now.faults) → (status ≡ 4 → RisesOnce source source_now) → (status ≡ 0) ⊎ (status ≡ 3) ⊎ (status ≡ 4) ⊎ (status ≡ 5) ⊎ (status ≡ 6) ⊎ (status ≡ 7)
       → IsAnswered first bytes bytes_now shelf shelf_now station station_now Failed unopened status
-  answered run stops exit three four others = record {
+  answered run reads writes stops exit three four others = record {
     run = run;
+    reads = reads;
+    writes = writes;
     stops = stops;
     exit = exit;
     complete = λ quiet not_starved is_mirror no_memory within. by_status quiet not_starved is_mirror no_memory within others;
@@ -77,7 +80,7 @@ module _ (first : State) (bytes bytes_now : Option (List ℕ)) (source source_no
       by_status quiet not_starved is_mirror no_memory within (inr (inr (inr (inr (inl is))))) = absurd (is_mirror is)
       by_status quiet not_starved is_mirror no_memory within (inr (inr (inr (inr (inr is))))) = absurd (false≢true (sym within ∙ (run.past is).1))
 
-none_one : (earlier : List Turn) (last : Turn) → [] ≡ earlier ++ last ∷ [] → ⊥
+pub none_one : (earlier : List Turn) (last : Turn) → [] ≡ earlier ++ last ∷ [] → ⊥
 none_one [] last is = true≢false (ap is_empty is)
   where
     is_empty : List Turn → Bool
@@ -96,7 +99,7 @@ unlike status n (inr (inl is)) same three five six = five (omega (arith, is, sam
 unlike status n (inr (inr is)) same three five six = six (omega (arith, is, same))
 
 -- no mirror opened, and no line was answered
-pub run_unopened : (first : State) (bytes : Option (List ℕ)) (view : ShelfView) (entry exit : StationView) (status : ℕ) → view.faults < 2 ^ 64 → (status ≡ 3) ⊎ (status ≡ 5) ⊎ (status ≡ 6) → printed_of exit ≡ printed_of entry
+abbrev pub run_unopened : (first : State) (bytes : Option (List ℕ)) (view : ShelfView) (entry exit : StationView) (status : ℕ) → view.faults < 2 ^ 64 → (status ≡ 3) ⊎ (status ≡ 5) ⊎ (status ≡ 6) → printed_of exit ≡ printed_of entry
     → (IsTrue entry.is_told → AllHold entry first.gaz → Keeps (record { first = first; turns = [] }) entry exit status)
     → (IsTrue entry.is_told → NothingToRedo entry.bytes → IsUnwritten entry exit)
     → RunAnswers first bytes bytes view view entry exit status

@@ -1,5 +1,5 @@
 -- A request line as one step.
-use Rattle.std.proofs.Common.{◌≡◌, ℕ, IsTrue, List, refl, ap, sym, subst}
+use Rattle.std.proofs.Common.{◌≡◌, ℕ, List, refl, ap, sym, subst}
 use Rattle.std.specs.Prelude.{Result, Ok, Err}
 use Rattle.gaz_outside.specs.Outside.{ShelfView, StationView}
 use Rattle.gaz_num.specs.Refusal.{request}

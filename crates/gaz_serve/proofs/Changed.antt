@@ -22,7 +22,7 @@ use Rattle.gaz_day.specs.Order.{IsInOrder}
 use Rattle.gaz_num.specs.declared.words.FileName.{FileName}
 use Rattle.gaz_words.specs.Grammar.{RequestAsked}
 use Rattle.gaz_ask.specs.Asked.{OverMirror}
-use Rattle.gaz_turns.specs.Turns.{State, changed, made, plain, memory, shelf, answer_to, opens, MayStarve}
+use Rattle.gaz_turns.specs.Turns.{State, changed, plain, memory, shelf, answer_to, opens, MayStarve}
 use Rattle.gaz_turns.specs.Steps.{AreasKept, IsGiven}
 use Rattle.gaz_turns.proofs.Kept.{kept_read}
 use Rattle.gaz_turns.proofs.Told.{still_mirrors, mirrors_now, same_printed, prints_from, told_given, stored_given, unstored_given, on_ok}

@@ -1,12 +1,8 @@
 -- The files that a request finds and leaves.
-use Rattle.std.proofs.Common.{◌≡◌, ℕ, Bool, true, false, IsTrue, List, [], ◌∷◌, refl, ap, Option, Some, None, ◌∙◌, sym, subst, ◌⊎◌, ⊎_elim, inl, inr}
-use Rattle.std.specs.Prelude.{IfSome, IsSome, Result, Ok, Err, option_and_then, if◌then◌else◌}
-use Rattle.gaz_outside.specs.Outside.{ShelfView, FindsFiles, SameFiles, SameNumbers, NoneOpen, files_of, bytes_of}
+use Rattle.std.proofs.Common.{◌≡◌, Bool, true, false, IsTrue, List, [], ◌∷◌, refl, Option, Some, None, ◌∙◌, sym, subst, ◌⊎◌, ⊎_elim, inl, inr}
+use Rattle.std.specs.Prelude.{IfSome, Result, Ok, Err, if◌then◌else◌}
+use Rattle.gaz_outside.specs.Outside.{ShelfView, FindsFiles, SameNumbers, NoneOpen, files_of}
 use Rattle.gaz_num.specs.declared.words.FileName.{FileName}
-use Rattle.gaz_num.specs.Refusal.{Refusal, ◌>>=◌}
-use Rattle.gaz_num.specs.Words.{file_text}
-use Rattle.gaz_plain.specs.Gazetteer.{Gazetteer}
-use Rattle.gaz_plain.specs.Fold.{fold}
 use Rattle.gaz_plain.specs.Load.{Files, load_files}
 use Rattle.gaz_words.specs.Grammar.{RequestAsked, asks_load, asks_day, asks_get, asks_search, asks_children, asks_chain, asks_admin}
 use Rattle.gaz_words.specs.declared.request.BadRequest.{BadRequest}

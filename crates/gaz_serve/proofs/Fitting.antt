@@ -2,10 +2,9 @@
 use Rattle.std.proofs.Common.{◌≡◌, inl, inr, Bool, false, IsTrue, List, ℕ, length, ◌<◌, ◌≤◌, ◌*◌, ◌∙◌, refl, sym, ap, subst, arith, Option, Some, None}
 use Rattle.gaz_outside.specs.declared.station.Area.{Area}
 use Rattle.gaz_outside.specs.declared.station.Area.TheVariants as area
-use Rattle.gaz_outside.specs.Station.{StationView, Outcome, Leaves, IsStable}
+use Rattle.gaz_outside.specs.Station.{StationView, IsStable}
 use Rattle.gaz_page.specs.declared.tree_root.Root.{Root}
-use Rattle.gaz_page.specs.declared.page.Side.{Side}
-use Rattle.gaz_redo.specs.Content.{Contents, is_open, three}
+use Rattle.gaz_redo.specs.Content.{is_open, three}
 use Rattle.gaz_redo.proofs.Phases.{content_closed}
 use Rattle.gaz_pages.specs.Areas.{side_area}
 use Rattle.gaz_pages.specs.Fits.{Fits, HasStable, Names}

@@ -15,7 +15,7 @@ use Rattle.gaz_install.proofs.Named.{dated_by}
 use Rattle.gaz_open.proofs.Opened.{found_still}
 use Rattle.gaz_turns.proofs.Told.{mirrors_now, same_printed}
 use Rattle.gaz_serve.specs.Serve.{Ends, HasPrinted}
-use Rattle.gaz_serve.specs.Ran.{IsUnopened, ServeRan}
+use Rattle.gaz_serve.specs.Bounds.{OpensReadsWithin}
 use Rattle.gaz_serve.specs.Trial.{ServedOrRefused, TrialRefused, IsRefusedStop, trial_refusal}
 use Rattle.gaz_serve.proofs.Unopened.{ran_unopened}
 
@@ -24,10 +24,10 @@ module _ {S F T : Type 0} (source : S → SourceView) (shelf : F → ShelfView) 
       → ((t : ℕ) (c : Outcome) → IsTrue (station new).is_told → t ≤ (station new).moment → Leaves (station new) c → (station new).left_since t c)
       → (status ≡ 6 → IsTrue (station old).is_told → (gaz : Gazetteer) → Mirrors (station old).bytes gaz → ⊥)
       → (status ≡ 3 → RisesOnce (station old).faults (station new).faults) → (status ≢ 3 → (station new).faults ≡ (station old).faults)
-      → ServedOrRefused source shelf station only_empty s s f f old new status
-  served_unopened status why fits opening counts none failed kept =
+      → OpensReadsWithin (Some 0) (station old) (station new) → ServedOrRefused source shelf station only_empty s s f f old new status
+  served_unopened status why fits opening counts none failed kept reads =
       inl ((
-        ran_unopened source shelf station s f old new status why fits opening counts none failed kept,
+        ran_unopened source shelf station s f old new status why fits opening counts none failed kept reads,
         λ only told gaz mirrors. inr (record { why = why; source = refl; shelf = refl; printed = same_printed (station old) (station new) opening.counts.told opening.printed }),
       ))
 

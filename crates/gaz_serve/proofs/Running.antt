@@ -35,7 +35,9 @@ use Rattle.gaz_serve.specs.Change.{Closes}
 use Rattle.gaz_serve.specs.Step.{IsBlamed, OneStep}
 use Rattle.gaz_serve.specs.Serve.{Given}
 use Rattle.gaz_serve.proofs.Changing.{request_found}
-use Rattle.gaz_serve.specs.Ran.{asked, RisesBy, IsHeard, IsUnwritten, RunAnswers}
+use Rattle.gaz_serve.specs.Ran.{asked, RisesBy, IsHeard, IsUnwritten, RunAnswersWithin}
+use Rattle.gaz_serve.specs.Bounds.{most_read_by, most_read_in, most_written_by, most_written_at, most_written_in, ReadsWithin, WritesWithin}
+use Rattle.gaz_serve.proofs.Reading.{reads_on, writes_on, most_more, most_more_written, turn_writes}
 
 shelf-append : (turns more : List Turn) → shelf_refusals (turns ++ more) ≡ shelf_refusals turns + shelf_refusals more
 shelf-append turns more = grind (arith, common_steps)
@@ -54,6 +56,8 @@ pub record UnderWay (first : State) (bytes : Option (List ℕ)) (now : Option Re
   pub last_cause : shelf_now.last_fault ≡ blamed_last shelf.last_fault turns
   pub text_is : printed_of station ≡ append_known (printed_of entry) (replies first turns)
   pub unwritten : has_change first turns ≡ false → AreasKept entry station
+  pub reads : ReadsWithin (most_read_in first turns) entry station
+  pub writes : WritesWithin (most_written_in first turns) entry station
   pub keeps : IsTrue entry.is_told → AllHold entry first.gaz → IsUnderWay first entry station (state_after first turns) turns
 
 refused_one : (line : List ℕ) (verdict : Verdict) (files : Files) → shelf_refusals (record { line = line; verdict = verdict; files = files } ∷ []) ≡ cond (is_shelf verdict) 1 0
@@ -116,57 +120,65 @@ all_given (Some text) lines now past are told none =
 
 module _ (first : State) (bytes : Option (List ℕ)) (shelf shelf_now : ShelfView) (entry station : StationView) (now : Option Rest) (answered : ℕ) (way : UnderWay first bytes now answered shelf shelf_now entry station) where
   -- the source ended, or goes on past the limit
-  pub run_ends : (status : ℕ) (past : Bool) (bytes_now : Option (List ℕ)) → IfSome now (λ rest. rest ≡ rest_with [] past) → status ≢ 3 → status ≢ 4 → status ≢ 5 → status ≢ 6 → (status ≡ 0 → past ≡ false) → (status ≡ 7 → past ≡ true) → RunAnswers first bytes bytes_now shelf shelf_now entry station status
+  pub run_ends : (status : ℕ) (past : Bool) (bytes_now : Option (List ℕ)) → IfSome now (λ rest. rest ≡ rest_with [] past) → status ≢ 3 → status ≢ 4 → status ≢ 5 → status ≢ 6 → (status ≡ 0 → past ≡ false) → (status ≡ 7 → past ≡ true) → RunAnswersWithin first bytes bytes_now shelf shelf_now entry station status
   run_ends status past bytes_now none not_cut not_failed not_starved not_none ends passes =
       let all = all_given bytes (asked way.turns) now past way.are_lines way.told none in
       record {
-        given = all.0;
-        turns = way.turns;
-        unanswered = [];
-        lines_are = all.1;
-        files = way.files;
-        same_files = λ files only. each_has files shelf way.turns shelf_now way.files only;
-        legal = way.legal;
-        causes = way.causes;
-        last_cause = way.last_cause;
-        text = replies first way.turns;
-        text_is = way.text_is;
-        whole = λ is. refl;
-        cut = λ is. absurd (not_cut is);
-        ended = λ is. (refl, all.2 ∙ ends is);
-        past = λ is. (refl, all.2 ∙ passes is);
-        heard = λ is. absurd (not_failed is);
-        heard_before = λ is. absurd (not_cut is);
-        keeps = λ is_told holds. ends_well first entry station (state_after first way.turns) way.turns status not_cut (way.keeps is_told holds);
-        unwritten = λ is_told nothing none. unwritten_by entry station is_told (way.unwritten none);
-        unanswering = λ either. ⊎_elim (λ is. absurd (not_starved is)) (λ is. absurd (not_none is)) either;
+        run = record {
+          given = all.0;
+          turns = way.turns;
+          unanswered = [];
+          lines_are = all.1;
+          files = way.files;
+          same_files = λ files only. each_has files shelf way.turns shelf_now way.files only;
+          legal = way.legal;
+          causes = way.causes;
+          last_cause = way.last_cause;
+          text = replies first way.turns;
+          text_is = way.text_is;
+          whole = λ is. refl;
+          cut = λ is. absurd (not_cut is);
+          ended = λ is. (refl, all.2 ∙ ends is);
+          past = λ is. (refl, all.2 ∙ passes is);
+          heard = λ is. absurd (not_failed is);
+          heard_before = λ is. absurd (not_cut is);
+          keeps = λ is_told holds. ends_well first entry station (state_after first way.turns) way.turns status not_cut (way.keeps is_told holds);
+          unwritten = λ is_told nothing none. unwritten_by entry station is_told (way.unwritten none);
+          unanswering = λ either. ⊎_elim (λ is. absurd (not_starved is)) (λ is. absurd (not_none is)) either;
+        };
+        reads = way.reads;
+        writes = way.writes;
       }
 
   -- the source failed
-  pub run_fails : (status : ℕ) (bytes_now : Option (List ℕ)) → status ≡ 4 → IsHeard 0 bytes bytes_now answered → RunAnswers first bytes bytes_now shelf shelf_now entry station status
+  pub run_fails : (status : ℕ) (bytes_now : Option (List ℕ)) → status ≡ 4 → IsHeard 0 bytes bytes_now answered → RunAnswersWithin first bytes bytes_now shelf shelf_now entry station status
   run_fails status bytes_now four heard =
       let some = lines_given bytes (asked way.turns) now false way.are_lines way.told in
       record {
-        given = some.0;
-        turns = way.turns;
-        unanswered = some.1;
-        lines_are = some.2;
-        files = way.files;
-        same_files = λ files only. each_has files shelf way.turns shelf_now way.files only;
-        legal = way.legal;
-        causes = way.causes;
-        last_cause = way.last_cause;
-        text = replies first way.turns;
-        text_is = way.text_is;
-        whole = λ is. refl;
-        cut = λ is. absurd (omega (arith, four, is));
-        ended = λ is. absurd (omega (arith, four, is));
-        past = λ is. absurd (omega (arith, four, is));
-        heard = λ is. subst (IsHeard 0 bytes bytes_now) (sym way.count) heard;
-        heard_before = λ is. absurd (omega (arith, four, is));
-        keeps = λ is_told holds. ends_well first entry station (state_after first way.turns) way.turns status (λ is. absurd (omega (arith, four, is))) (way.keeps is_told holds);
-        unwritten = λ is_told nothing none. unwritten_by entry station is_told (way.unwritten none);
-        unanswering = λ either. ⊎_elim (λ is. absurd (omega (arith, four, is))) (λ is. absurd (omega (arith, four, is))) either;
+        run = record {
+          given = some.0;
+          turns = way.turns;
+          unanswered = some.1;
+          lines_are = some.2;
+          files = way.files;
+          same_files = λ files only. each_has files shelf way.turns shelf_now way.files only;
+          legal = way.legal;
+          causes = way.causes;
+          last_cause = way.last_cause;
+          text = replies first way.turns;
+          text_is = way.text_is;
+          whole = λ is. refl;
+          cut = λ is. absurd (omega (arith, four, is));
+          ended = λ is. absurd (omega (arith, four, is));
+          past = λ is. absurd (omega (arith, four, is));
+          heard = λ is. subst (IsHeard 0 bytes bytes_now) (sym way.count) heard;
+          heard_before = λ is. absurd (omega (arith, four, is));
+          keeps = λ is_told holds. ends_well first entry station (state_after first way.turns) way.turns status (λ is. absurd (omega (arith, four, is))) (way.keeps is_told holds);
+          unwritten = λ is_told nothing none. unwritten_by entry station is_told (way.unwritten none);
+          unanswering = λ either. ⊎_elim (λ is. absurd (omega (arith, four, is))) (λ is. absurd (omega (arith, four, is))) either;
+        };
+        reads = way.reads;
+        writes = way.writes;
       }
 
   module _ (line : List ℕ) (is_line : IsLine line) (later : Option Rest) (told : IfSome bytes (λ text. Told 4096 (asked way.turns ++ line ∷ []) later text)) (shelf_told : IsTrue shelf_now.is_told) (after : ShelfView) (station_now : StationView)
@@ -197,9 +209,21 @@ module _ (first : State) (bytes : Option (List ℕ)) (shelf shelf_now : ShelfVie
       last_more : {A E : Type 0} (result : Result A E) (step : OneStep line state shelf_now after station station_now result) → after.last_fault ≡ blamed_last shelf.last_fault (way.turns ++ turn_by step.verdict ∷ [])
       last_more result step = blames_more step.verdict shelf_now after step.blamed ∙ ap (blamed_by step.verdict) way.last_cause ∙ sym (blamed_more shelf.last_fault way.turns (turn_by step.verdict))
 
+      -- it reads and writes what it may
+      reads_more : (verdict : Verdict) → ReadsWithin (most_read_by state.gaz (request_in line)) station station_now → ReadsWithin (most_read_in first (way.turns ++ turn_by verdict ∷ [])) entry station_now
+      reads_more verdict read =
+          subst (λ (m : Option ℕ). ReadsWithin m entry station_now) (sym (most_more first way.turns (turn_by verdict)))
+          (reads_on (most_read_in first way.turns) (most_read_by state.gaz (request_in line)) entry station station_now way.reads read)
+
+      writes_more : (verdict : Verdict) → (is_change (answer_at state (turn_by verdict)).reply ≡ false → AreasKept station station_now) → WritesWithin (most_written_by after.files (request_in line)) station station_now → WritesWithin (most_written_in first (way.turns ++ turn_by verdict ∷ [])) entry station_now
+      writes_more verdict stays wrote =
+          subst (λ (m : Option ℕ). WritesWithin m entry station_now) (sym (most_more_written first way.turns (turn_by verdict)))
+          (writes_on (most_written_in first way.turns) (most_written_at state (turn_by verdict)) entry station station_now way.writes (turn_writes state (turn_by verdict) station station_now wrote stays))
+
       -- one more line is answered
-      pub next_way : {E : Type 0} (m : ℕ) → m ≡ answered + 1 → OneStep {A = Unit {0}} {E = E} line state shelf_now after station station_now (Ok tt) → UnderWay first bytes later m shelf after entry station_now
-      next_way {E = E} m one_more step =
+      pub next_way : {E : Type 0} (m : ℕ) → m ≡ answered + 1 → OneStep {A = Unit {0}} {E = E} line state shelf_now after station station_now (Ok tt)
+          → ReadsWithin (most_read_by state.gaz (request_in line)) station station_now → WritesWithin (most_written_by after.files (request_in line)) station station_now → UnderWay first bytes later m shelf after entry station_now
+      next_way {E = E} m one_more step read wrote =
           let turn : Turn = turn_by step.verdict in
           let well : Result (Unit {0}) E = Ok tt in
           let reply = reply_text (answer_at state turn).reply in
@@ -219,6 +243,8 @@ module _ (first : State) (bytes : Option (List ℕ)) (shelf shelf_now : ShelfVie
                 ∙ append_two (printed_of entry) (replies first way.turns) reply
                 ∙ ap (append_known (printed_of entry)) (sym (replies_more first way.turns turn));
             unwritten = λ none. unwritten_on step.verdict step.given.stays none;
+            reads = reads_more step.verdict read;
+            writes = writes_more step.verdict step.given.stays wrote;
             keeps = λ entry_told holds.
                 let run = way.keeps entry_told holds in
                 goes_on first entry station station_now state way.turns turn run (λ a. stay a is_told) (step.given.moments is_told run.holds) (state_after first (way.turns ++ turn ∷ []))
@@ -227,8 +253,9 @@ module _ (first : State) (bytes : Option (List ℕ)) (shelf shelf_now : ShelfVie
 
       -- the reply of one more line is cut
       pub run_cut : {E : Type 0} → ((a : Area) → IsTrue station_now.is_told → station_now.may_leave a (station_now.bytes a)) → ((t : ℕ) (c : Outcome) → IsTrue station_now.is_told → t ≤ station_now.moment → Leaves station_now c → station_now.left_since t c)
-          → (status : ℕ) (bytes_now : Option (List ℕ)) → status ≡ 3 → IsHeard 65536 bytes bytes_now answered → (failed : E) → OneStep {A = Unit {0}} {E = E} line state shelf_now after station station_now (Err failed) → RunAnswers first bytes bytes_now shelf after entry station_now status
-      run_cut {E = E} stay_now counts status bytes_now three heard failed step =
+          → (status : ℕ) (bytes_now : Option (List ℕ)) → status ≡ 3 → IsHeard 65536 bytes bytes_now answered → (failed : E) → OneStep {A = Unit {0}} {E = E} line state shelf_now after station station_now (Err failed)
+          → ReadsWithin (most_read_by state.gaz (request_in line)) station station_now → WritesWithin (most_written_by after.files (request_in line)) station station_now → RunAnswersWithin first bytes bytes_now shelf after entry station_now status
+      run_cut {E = E} stay_now counts status bytes_now three heard failed step read wrote =
           let turn : Turn = turn_by step.verdict in
           let bad : Result (Unit {0}) E = Err failed in
           let front = step.given.printed.0 in
@@ -236,36 +263,40 @@ module _ (first : State) (bytes : Option (List ℕ)) (shelf shelf_now : ShelfVie
           let reply_on : replies first (way.turns ++ turn ∷ []) ≡ replies first way.turns ++ reply_text (answer_at state turn).reply = replies_more first way.turns turn in
           let files_on : HaveFiles shelf (way.turns ++ turn ∷ []) after = files_more bad step in
           record {
-            given = some.0;
-            turns = way.turns ++ turn ∷ [];
-            unanswered = some.1;
-            lines_are = some.2 ∙ ap (λ lines. lines ++ some.1) (sym (asked_more way.turns turn));
-            files = files_on;
-            same_files = λ files only. each_has files shelf (way.turns ++ turn ∷ []) after files_on only;
-            legal = legal_more first way.turns turn way.legal step.may;
-            causes = causes_more bad step;
-            last_cause = last_more bad step;
-            text = replies first way.turns ++ front;
-            text_is =
-                step.given.printed.2
-                ∙ ap (λ known. append_known known front) way.text_is
-                ∙ append_two (printed_of entry) (replies first way.turns) front;
-            whole = λ other. absurd (other three);
-            cut = λ is. record {
-              front = (step.given.printed.1.0, reply_on ∙ ap (λ xs. replies first way.turns ++ xs) step.given.printed.1.1 ∙ sym (append_assoc (replies first way.turns) front step.given.printed.1.0));
-              begun = λ earlier last same. subst (λ (ts : List Turn). IsPrefix (replies first ts) (replies first way.turns ++ front)) (but_last way.turns earlier turn last same) (front, refl);
+            run = record {
+              given = some.0;
+              turns = way.turns ++ turn ∷ [];
+              unanswered = some.1;
+              lines_are = some.2 ∙ ap (λ lines. lines ++ some.1) (sym (asked_more way.turns turn));
+              files = files_on;
+              same_files = λ files only. each_has files shelf (way.turns ++ turn ∷ []) after files_on only;
+              legal = legal_more first way.turns turn way.legal step.may;
+              causes = causes_more bad step;
+              last_cause = last_more bad step;
+              text = replies first way.turns ++ front;
+              text_is =
+                  step.given.printed.2
+                  ∙ ap (λ known. append_known known front) way.text_is
+                  ∙ append_two (printed_of entry) (replies first way.turns) front;
+              whole = λ other. absurd (other three);
+              cut = λ is. record {
+                front = (step.given.printed.1.0, reply_on ∙ ap (λ xs. replies first way.turns ++ xs) step.given.printed.1.1 ∙ sym (append_assoc (replies first way.turns) front step.given.printed.1.0));
+                begun = λ earlier last same. subst (λ (ts : List Turn). IsPrefix (replies first ts) (replies first way.turns ++ front)) (but_last way.turns earlier turn last same) (front, refl);
+              };
+              keeps = λ entry_told holds.
+                  let run = way.keeps entry_told holds in
+                  let now = subst (λ (b : Bool). IsTrue b) (sym still_now) is_told in
+                  subst (λ (n : ℕ). Keeps (record { first = first; turns = way.turns ++ turn ∷ [] }) entry station_now n) (sym three)
+                  (ends_cut first entry station station_now state way.turns turn run (λ a. stay a is_told) (step.given.moments is_told run.holds) (λ a. stay_now a now) (λ t c le leaves. counts t c now le leaves));
+              unwritten = λ entry_told nothing none. unwritten_by entry station_now entry_told (unwritten_on step.verdict step.given.stays none);
+              ended = λ is. absurd (omega (arith, three, is));
+              past = λ is. absurd (omega (arith, three, is));
+              heard = λ is. absurd (omega (arith, three, is));
+              heard_before = λ is. subst (IsHeard 65536 bytes bytes_now) (one_less way.turns turn answered way.count) heard;
+              unanswering = λ either. ⊎_elim (λ is. absurd (omega (arith, three, is))) (λ is. absurd (omega (arith, three, is))) either;
             };
-            keeps = λ entry_told holds.
-                let run = way.keeps entry_told holds in
-                let now = subst (λ (b : Bool). IsTrue b) (sym still_now) is_told in
-                subst (λ (n : ℕ). Keeps (record { first = first; turns = way.turns ++ turn ∷ [] }) entry station_now n) (sym three)
-                (ends_cut first entry station station_now state way.turns turn run (λ a. stay a is_told) (step.given.moments is_told run.holds) (λ a. stay_now a now) (λ t c le leaves. counts t c now le leaves));
-            unwritten = λ entry_told nothing none. unwritten_by entry station_now entry_told (unwritten_on step.verdict step.given.stays none);
-            ended = λ is. absurd (omega (arith, three, is));
-            past = λ is. absurd (omega (arith, three, is));
-            heard = λ is. absurd (omega (arith, three, is));
-            heard_before = λ is. subst (IsHeard 65536 bytes bytes_now) (one_less way.turns turn answered way.count) heard;
-            unanswering = λ either. ⊎_elim (λ is. absurd (omega (arith, three, is))) (λ is. absurd (omega (arith, three, is))) either;
+            reads = reads_more step.verdict read;
+            writes = writes_more step.verdict step.given.stays wrote;
           }
 
 -- before the first line
@@ -283,6 +314,8 @@ way_first first bytes now answered view entry fits none only mirrors told = reco
   last_cause = refl;
   text_is = append_none (printed_of entry);
   unwritten = λ none. kept_same entry;
+  reads = omega arith;
+  writes = omega arith;
   keeps = λ is_told holds. starts first entry (λ c left. only c is_told left) holds;
 }
 
@@ -301,6 +334,15 @@ long_step line state view station station_now result only long printed cut stay 
   given = subst (λ r. IsGiven (answer_to_read state view.files r) state station station_now result) (sym (long_request line long))
       (told_given state (refused (request (codes "length"))) station station_now result only printed cut stay);
 }
+
+-- and reads no page
+pub long_reads : (line : List ℕ) (state : State) (station station_now : StationView) → 4096 < length line → station_now.reads ≡ station.reads → ReadsWithin (most_read_by state.gaz (request_in line)) station station_now
+long_reads line state station station_now long same =
+    subst (λ r. ReadsWithin (most_read_by state.gaz r) station station_now) (sym (long_request line long)) (omega (arith, same))
+
+pub long_writes : (line : List ℕ) (files : Files) (station station_now : StationView) → 4096 < length line → station_now.writes ≡ station.writes → WritesWithin (most_written_by files (request_in line)) station station_now
+long_writes line files station station_now long same =
+    subst (λ r. WritesWithin (most_written_by files r) station station_now) (sym (long_request line long)) (omega (arith, same))
 
 -- one more line was given, where the bytes are told
 pub line_told : (bytes : Option (List ℕ)) (given : List (List ℕ)) (line : List ℕ) (old new : Option Rest) → old ≡ option_map (onto (Some line)) new → IfSome bytes (λ text. Told 4096 given old text) → IfSome bytes (λ text. Told 4096 (given ++ line ∷ []) new text)

@@ -1,8 +1,8 @@
 -- What a run over the requests of a trial never ends with.
-use Rattle.std.proofs.Common.{◌≡◌, ◌≢◌, ◌⊎◌, inl, inr, ℕ, true, false, Bool, IsTrue, List, Option, Some, None, arith, refl, ap, sym, subst, ◌∙◌}
+use Rattle.std.proofs.Common.{◌≡◌, ◌≢◌, ◌⊎◌, inl, inr, ℕ, true, false, Bool, IsTrue, List, Some, None, arith, refl, ap, sym, subst, ◌∙◌}
 use Rattle.std.proofs.lemmas.Bool.{false≢true}
 use Rattle.std.specs.Prelude.{IfSome, if◌then◌else◌}
-use Rattle.gaz_outside.specs.Outside.{SourceView, ShelfView, StationView, HasRisen, RisesOnce, left_of, printed_of}
+use Rattle.gaz_outside.specs.Outside.{SourceView, ShelfView, StationView, HasRisen, RisesOnce, left_of}
 use Rattle.gaz_num.specs.Pieces.{is_too_long}
 use Rattle.gaz_make.specs.Files.{request_text}
 use Rattle.gaz_serve.specs.Serve.{Ends}

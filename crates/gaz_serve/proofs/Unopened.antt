@@ -1,5 +1,5 @@
 -- A run of the program in which no mirror opened.
-use Rattle.std.proofs.Common.{◌≡◌, ◌≢◌, ◌⊎◌, inl, inr, ◌^◌, ◌<◌, ◌≤◌, ℕ, Bool, IsTrue, arith, refl, sym, subst}
+use Rattle.std.proofs.Common.{◌≡◌, ◌≢◌, ◌⊎◌, inl, inr, ◌^◌, ◌<◌, ◌≤◌, ℕ, Bool, IsTrue, Some, arith, refl, sym, subst}
 use Rattle.gaz_outside.specs.Outside.{SourceView, ShelfView, StationView, RisesOnce, left_of}
 use Rattle.gaz_outside.specs.Station.{Outcome, Leaves}
 use Rattle.gaz_outside.proofs.Runs.{begins, confined_start, leaves_weaker}
@@ -11,6 +11,7 @@ use Rattle.gaz_rows.specs.Holds.{IsFound}
 use Rattle.gaz_open.specs.Opens.{IsOpening}
 use Rattle.gaz_turns.proofs.Told.{same_printed}
 use Rattle.gaz_turns.proofs.Underway.{ends_early}
+use Rattle.gaz_serve.specs.Bounds.{OpensReadsWithin}
 use Rattle.gaz_serve.specs.Ran.{IsUnopened, ServeRan}
 use Rattle.gaz_serve.proofs.Answered.{answered, run_unopened, unlike}
 use Rattle.gaz_serve.proofs.Taken.{taken_nothing}
@@ -42,8 +43,8 @@ module _ {S F T : Type 0} (source : S → SourceView) (shelf : F → ShelfView) 
       → ((t : ℕ) (c : Outcome) → IsTrue (station new).is_told → t ≤ (station new).moment → Leaves (station new) c → (station new).left_since t c)
       → (status ≡ 6 → IsTrue (station old).is_told → (gaz : Gazetteer) → Mirrors (station old).bytes gaz → ⊥)
       → (status ≡ 3 → RisesOnce (station old).faults (station new).faults) → (status ≢ 3 → (station new).faults ≡ (station old).faults)
-      → ServeRan source shelf station s s f f old new status
-  ran_unopened status why fits opening counts none failed kept =
+      → OpensReadsWithin (Some 0) (station old) (station new) → ServeRan source shelf station s s f f old new status
+  ran_unopened status why fits opening counts none failed kept reads =
       let printed = same_printed (station old) (station new) opening.counts.told opening.printed in
       let unopened : IsUnopened s s f f (station old) (station new) status = record { why = why; source = refl; shelf = refl; printed = printed } in
       record {
@@ -52,7 +53,7 @@ module _ {S F T : Type 0} (source : S → SourceView) (shelf : F → ShelfView) 
             (run_unopened first (left_of (source s)) (shelf f) (station old) (station new) status fits why printed
             (λ told holds. ends_early first.gaz (station old) (station new) status (leaves_weaker (station old) (station new) _ _ (λ c found. found_still (station old) first.gaz c holds found) (opening.moments told)) (opening.printed told) (λ t c le leaves. counts t c (still told) le leaves))
             (λ told nothing. record { bytes = (opening.untouched told nothing).bytes; writes = opening.unwritten told nothing }))
-            (λ told. leaves_weaker (station old) (station new) _ _ (λ c found. inl found) (opening.moments told)) (inl unopened) failed (λ is. no_status status 4 why (inr refl) is) (of_all status why);
+            reads (λ told slots redo. let most = opening.writes told slots redo in omega (arith, most)) (λ told. leaves_weaker (station old) (station new) _ _ (λ c found. inl found) (opening.moments told)) (inl unopened) failed (λ is. no_status status 4 why (inr refl) is) (of_all status why);
         failures = tells_unopened (shelf f) (station old) (station new) status fits printed;
         none = none;
         unopened = λ is. unopened;

@@ -15,6 +15,7 @@ use Rattle.gaz_turns.specs.Head.{Keeps, IsFoundOrStop, IsExit}
 use Rattle.gaz_num.specs.Pieces.{ended_lines, is_too_long}
 use Rattle.gaz_num.specs.Words.{file_text}
 use Rattle.gaz_reply.specs.Reply.{Reply, reply_text}
+use Rattle.gaz_serve.specs.Bounds.{ReadsWithin, WritesWithin, OpensReadsWithin, OpensWritesWithin, most_read_in, most_written_in}
 use Rattle.gaz_serve.specs.Step.{shelf_file}
 use Rattle.gaz_serve.specs.Serve.{Given, Taken}
 
@@ -84,6 +85,12 @@ pub record RunAnswers (first : State) (bytes bytes_now : Option (List ℕ)) (she
   -- With 5 and 6 no line was answered.
   pub unanswering : (status ≡ 5) ⊎ (status ≡ 6) → turns ≡ []
 
+-- So the run answered, and it read and wrote no more pages than its turns may, where that is told.
+pub record RunAnswersWithin (first : State) (bytes bytes_now : Option (List ℕ)) (shelf shelf_now : ShelfView) (station station_now : StationView) (status : ℕ) : Type 0 where
+  pub run : RunAnswers first bytes bytes_now shelf shelf_now station station_now status
+  pub reads : ReadsWithin (most_read_in first run.turns) station station_now
+  pub writes : WritesWithin (most_written_in first run.turns) station station_now
+
 -- So the run answered. Whatever was pending at entry, each stop leaves what some outcome of entry had, or is one of the run; and
 -- no mirror opened, or the exit is one of the run. And where nothing failed, no memory was wanting, the areas are a mirror and the
 -- source is within the limit, each of its lines was met as it is defined.
@@ -91,6 +98,9 @@ pub record IsAnswered (first : State) (bytes bytes_now : Option (List ℕ)) (she
   pub run : RunAnswers first bytes bytes_now shelf shelf_now station station_now status
   pub stops : IsTrue station.is_told → LeavesOnly station station_now (IsFoundOrStop (record { first = first; turns = run.turns }) station)
   pub exit : unopened ⊎ (IsTrue station.is_told → IsExit (record { first = first; turns = run.turns }) station_now run.text status)
+  -- The opening and the turns read and write no more pages than they may.
+  pub reads : OpensReadsWithin (most_read_in first run.turns) station station_now
+  pub writes : OpensWritesWithin (most_written_in first run.turns) station station_now
   pub complete : (failed → ⊥) → status ≢ 5 → status ≢ 6 → memory_refusals run.turns ≡ 0 → run.given.is_past ≡ false →
       (status ≡ 0) × (asked run.turns ≡ run.given.lines) × AllByRecursion (λ turn. turn.verdict ≡ plain) run.turns
 

@@ -5,7 +5,6 @@ use Rattle.gaz_num.specs.declared.words.FileName.{FileName}
 use Rattle.gaz_num.specs.Refusal as refusal
 use Rattle.gaz_plain.specs.Gazetteer.{Gazetteer}
 use Rattle.gaz_plain.specs.Load.{Files}
-use Rattle.gaz_reply.specs.declared.reply.Done.{Done}
 use Rattle.gaz_reply.specs.Reply.{Reply, done, rows, refused, reply_text}
 use Rattle.gaz_rows.specs.Content.{Mirrors}
 use Rattle.gaz_change.specs.Change.{IsUnblamed, FailedAt}
@@ -13,7 +12,7 @@ use Rattle.gaz_ask.specs.Asked.{OverMirror}
 use Rattle.gaz_serve.specs.declared.step.EndFault.{EndFault}
 use Rattle.gaz_serve.specs.declared.step.EndFault.TheVariants.{Station, Damaged}
 use Rattle.gaz_serve.specs.Change.{Closes}
-use Rattle.gaz_turns.specs.Turns.{State, Answer, made, same_state, Verdict, plain, memory, shelf, MayBe, MayStarve, IsReached, opens, answer_to, answer_by}
+use Rattle.gaz_turns.specs.Turns.{State, Answer, same_state, Verdict, plain, memory, shelf, MayBe, MayStarve, IsReached, opens, answer_to, answer_by}
 use Rattle.gaz_turns.specs.Steps.{AreasKept, IsCutIn, IsGiven}
 use Rattle.gaz_words.specs.Grammar.{RequestAsked, request_in}
 

@@ -10,11 +10,12 @@ ghost use Rattle.gaz_reply.specs.Reply.{refused};
 ghost use Rattle.gaz_turns.specs.Turns.{State};
 ghost use Rattle.gaz_serve.specs.Session.{IsOpen};
 ghost use Rattle.gaz_serve.specs.Step.{Replies};
-ghost use Rattle.gaz_serve.specs.Ran.{RunAnswers, TellShelf};
+ghost use Rattle.gaz_serve.specs.Ran.{RunAnswersWithin, TellShelf};
 ghost use Rattle.gaz_serve.specs.Serve.{Taken};
 
 use crate::session::Session;
 use crate::step::{EndFault, answer};
+use gaz_framed::PagedStation;
 use gaz_lines::{LineCutter, LineFault};
 use gaz_outside::{Failed, Shelf, Source, Station};
 use gaz_reply::{Refusal, write_refusal};
@@ -23,6 +24,7 @@ use gaz_words::BadRequest;
 /// Answers a request line that is longer than the longest.
 fn refuse_long<T: Station>(station: &mut T) -> Result<(), Failed>
     ensures replies { Replies (refused (request (codes "length"))) (T.view station.old) (T.view station.new) result }
+    ensures unread { (T.view station.new).reads ≡ (T.view station.old).reads }
     ensures told { (T.view station.new).is_told ≡ (T.view station.old).is_told }
     ensures cause { HasCause (T.view station.old).faults (T.view station.new).faults result }
 {
@@ -30,7 +32,7 @@ fn refuse_long<T: Station>(station: &mut T) -> Result<(), Failed>
 }
 
 /// Answers the lines of the source, one after another, and answers the status.
-pub(crate) fn run<S: Source, F: Shelf, T: Station>(
+pub(crate) fn run<S: Source, F: Shelf, T: PagedStation>(
     session: &mut Session,
     source: &mut S,
     shelf: &mut F,
@@ -42,7 +44,7 @@ pub(crate) fn run<S: Source, F: Shelf, T: Station>(
     requires file_limit { file_limit_of cutter.old ≡ 2 ^ 40 }
     requires fresh { IsFresh cutter.old }
     ensures answers { IsTrue (T.view station.old).is_told → IsTrue (F.view shelf.old).is_told → (first : State) → Mirrors (T.view station.old).bytes first.gaz
-        → RunAnswers first (left_of (S.view source.old)) (left_of (S.view source.new)) (F.view shelf.old) (F.view shelf.new) (T.view station.old) (T.view station.new) result }
+        → RunAnswersWithin first (left_of (S.view source.old)) (left_of (S.view source.new)) (F.view shelf.old) (F.view shelf.new) (T.view station.old) (T.view station.new) result }
     ensures failures { TellShelf (F.view shelf.old) (F.view shelf.new) (T.view station.old) (T.view station.new) result }
     ensures emptied { result ≡ 0 → IfSome (left_of (S.view source.new)) (λ bytes. bytes ≡ []) }
     ensures taken { Taken 65536 (left_of (S.view source.old)) (left_of (S.view source.new)) }

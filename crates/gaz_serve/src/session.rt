@@ -1,5 +1,5 @@
 //! A session: an open mirror, the buffer by which files are read, and the room for lines and for answers.
-ghost use Rattle.std.specs.Prelude.{◌≡◌, ◌≤◌, ◌⊎◌, ◌∷◌, [], None, Ok, ◌&&◌, is_some, IsTrue, IfOk, IfErr, IfSome, OnOk, option_to_list, option_map};
+ghost use Rattle.std.specs.Prelude.{◌≡◌, ◌≤◌, ◌⊎◌, ◌∷◌, [], None, Ok, ◌&&◌, Some, is_some, IsTrue, IfOk, IfErr, IfSome, OnOk, option_to_list, option_map};
 ghost use Rattle.gaz_outside.specs.Outside.{files_of};
 ghost use Rattle.gaz_num.specs.Refusal.{memory};
 ghost use Rattle.gaz_num.specs.declared.words.Table.TheVariants.{Rows, Codes};
@@ -7,7 +7,7 @@ ghost use Rattle.gaz_plain.specs.Gazetteer.{Gazetteer, line_with};
 ghost use Rattle.gaz_pick.specs.Asked.{asked};
 ghost use Rattle.gaz_plain.specs.Search.{search_of};
 ghost use Rattle.gaz_plain.specs.Kin.{children_of, hierarchy_of};
-ghost use Rattle.gaz_words.specs.Grammar.{IsLimited, asks_load, asks_day};
+ghost use Rattle.gaz_words.specs.Grammar.{IsLimited, asks_load, asks_day, asks_get, asks_search, asks_children, asks_chain, asks_admin};
 ghost use Rattle.gaz_plain.specs.Load.{load_files, in_sequence};
 ghost use Rattle.gaz_rows.specs.Content.{Mirrors};
 ghost use Rattle.gaz_rows.specs.Holds.{AllHold};
@@ -15,6 +15,8 @@ ghost use Rattle.gaz_open.specs.Opens.{FailsOnce, IsNoMirror, IsOpening};
 ghost use Rattle.gaz_open.specs.declared.fault.Place.{Place};
 ghost use Rattle.gaz_reply.specs.Reply.{refused, rows};
 ghost use Rattle.gaz_turns.specs.Turns.{State, AsksName, day_opens, if_loaded};
+ghost use Rattle.gaz_ask.specs.Asked.{OverMirror};
+ghost use Rattle.gaz_serve.specs.Bounds.{OpensReadsWithin, ReadsWithin, WritesWithin, most_read, most_written};
 ghost use Rattle.gaz_serve.specs.Change.{Closes};
 ghost use Rattle.gaz_serve.specs.Session.{IsOpen, state_of};
 ghost use Rattle.gaz_serve.specs.Step.{Lasts, Meets, Reports, Tells, TellsShelf};
@@ -23,11 +25,12 @@ use crate::step::EndFault;
 use crate::tell::{end_of, refuse, tell_change, tell_found, tell_rows};
 use gaz_ask::{chain, children, get_code, get_row, search};
 use gaz_day::apply;
+use gaz_framed::PagedStation;
 use gaz_lines::LineCutter;
 use gaz_load::load;
 use gaz_num::Day;
 use gaz_open::{OpenFault, open};
-use gaz_outside::{Shelf, Station};
+use gaz_outside::Shelf;
 use gaz_pages::Mirror;
 use gaz_pick::{Best, Query};
 use gaz_reply::{Done, Refusal};
@@ -68,15 +71,28 @@ impl Model for Session {
 }
 
 impl Session {
-    /// Opens the mirror: reserves the buffer for files and the room for answers, syncs the areas, recovers from a stop, and reads the root
-    /// page. It prints nothing.
-    pub fn start<T: Station>(alloc: Global, station: &mut T) -> Result<Session, OpenFault>
+    /// Opens the mirror: reserves the buffer for files and the room for answers, syncs the areas, recovers from a stop, reads the root page,
+    /// and reserves so many frames, 8 to 65,536, by which pages are read. It prints nothing.
+    pub fn start<T: PagedStation>(
+        alloc: Global,
+        station: &mut T,
+        frames: u32,
+    ) -> Result<Session, OpenFault>
+        requires enough { 8 ≤ frames }
+        requires few { frames ≤ 65536 }
+
         // The device fits the session's mirror. Nothing is pending then: all outcomes have what the areas mirrored before.
         ensures open { IfOk result (λ session. IsOpen session (T.view station.new)) }
         ensures holds { OnOk result (IsTrue (T.view station.old).is_told → (gaz : Gazetteer) → Mirrors (T.view station.old).bytes gaz → AllHold (T.view station.new) gaz) }
 
         // A stop at any moment leaves a gazetteer that some outcome had when it began: the one that was there, if all had one.
         ensures opening { IsOpening (T.view station.old) (T.view station.new) }
+
+        // As many frames as were asked for, all empty.
+        ensures room { OnOk result ((T.room station.new ≡ frames) × (T.held station.new ≡ [])) }
+
+        // In pieces of 4,096 bytes it reads no more than an opening may.
+        ensures reads { OpensReadsWithin (Some 0) (T.view station.old) (T.view station.new) }
 
         // It says that there is no mirror only where the areas mirror none, and which of the log and Root is to blame.
         ensures none { IfErr result (λ why. IsTrue (T.view station.old).is_told → (place : Place) → why ≡ OpenFault.NotAMirror place → IsNoMirror place (T.view station.old)) }
@@ -94,7 +110,7 @@ impl Session {
             Ok(buf) => buf,
             Err(AllocError) => return Err(OpenFault::Memory),
         };
-        match open(alloc, station) {
+        match open(alloc, station, frames) {
             Ok(mirror) => Ok(Session {
                 alloc,
                 mirror,
@@ -114,7 +130,7 @@ impl Session {
     }
 
     /// Loads a dump, and tells it, or why it is refused.
-    pub(crate) fn load<F: Shelf, T: Station>(
+    pub(crate) fn load<F: Shelf, T: PagedStation>(
         &mut self,
         shelf: &mut F,
         station: &mut T,
@@ -141,7 +157,7 @@ impl Session {
     }
 
     /// Applies a day, and tells it, or why it is refused.
-    pub(crate) fn day<F: Shelf, T: Station>(
+    pub(crate) fn day<F: Shelf, T: PagedStation>(
         &mut self,
         shelf: &mut F,
         station: &mut T,
@@ -154,6 +170,7 @@ impl Session {
         ensures lasts { Lasts (T.view station.old) (T.view station.new) result }
         ensures open { OnOk result (IsOpen self.new (T.view station.new)) }
         ensures closes { Closes (day_opens (in_sequence (option_map (λ root. root.day) self.old.root) date)) (F.view shelf.old) (F.view shelf.new) }
+        ensures writes { IfSome (files_of (F.view shelf.new)) (λ files. WritesWithin (most_written files (asks_day date)) (T.view station.old) (T.view station.new)) }
         ensures reports { Reports (T.view station.old) (T.view station.new) result }
     {
         let made = apply(
@@ -168,20 +185,21 @@ impl Session {
     }
 
     /// Tells the place with the id, if there is one.
-    pub(crate) fn tell_place<T: Station>(
+    pub(crate) fn tell_place<T: PagedStation>(
         &mut self,
         station: &mut T,
         id: u32,
     ) -> Result<(), EndFault>
         requires open { IsOpen self.old (T.view station.old) }
         ensures tells { Tells (λ gaz reply. reply ≡ if_loaded (state_of gaz) (rows (option_to_list (line_with Rows (id ∷ []) gaz)))) (T.view station.old) (T.view station.new) result }
+        ensures reads { OverMirror (T.view station.old) (λ gaz. ReadsWithin (most_read gaz (asks_get id)) (T.view station.old) (T.view station.new)) }
         ensures kept { self.new ≡ self.old }
         ensures reports { Reports (T.view station.old) (T.view station.new) result }
     {
         if self.mirror.root().is_none() {
             return refuse(station, &Refusal::NotLoaded);
         }
-        match get_row(&mut self.mirror, station, id, &mut self.buf) {
+        match get_row(&self.mirror, station, id, &mut self.buf) {
             Ok(Some(size)) => tell_found(station, Some(&self.buf[..size])),
             Ok(None) => tell_found(station, None),
             Err(fault) => Err(end_of(fault)),
@@ -189,20 +207,21 @@ impl Session {
     }
 
     /// Tells the line of an admin code, if there is one.
-    pub(crate) fn tell_code<T: Station>(
+    pub(crate) fn tell_code<T: PagedStation>(
         &mut self,
         station: &mut T,
         code: &str,
     ) -> Result<(), EndFault>
         requires open { IsOpen self.old (T.view station.old) }
         ensures tells { Tells (λ gaz reply. reply ≡ if_loaded (state_of gaz) (rows (option_to_list (line_with Codes code.now gaz)))) (T.view station.old) (T.view station.new) result }
+        ensures reads { OverMirror (T.view station.old) (λ gaz. ReadsWithin (most_read gaz (asks_admin code.now)) (T.view station.old) (T.view station.new)) }
         ensures kept { self.new ≡ self.old }
         ensures reports { Reports (T.view station.old) (T.view station.new) result }
     {
         if self.mirror.root().is_none() {
             return refuse(station, &Refusal::NotLoaded);
         }
-        match get_code(&mut self.mirror, station, code.as_bytes(), &mut self.buf) {
+        match get_code(&self.mirror, station, code.as_bytes(), &mut self.buf) {
             Ok(Some(size)) => tell_found(station, Some(&self.buf[..size])),
             Ok(None) => tell_found(station, None),
             Err(fault) => Err(end_of(fault)),
@@ -210,7 +229,7 @@ impl Session {
     }
 
     /// Tells the answer to a search, or that memory was wanting, which may be only where a name is asked for.
-    pub(crate) fn tell_search<T: Station>(
+    pub(crate) fn tell_search<T: PagedStation>(
         &mut self,
         station: &mut T,
         query: &Query<'_>,
@@ -218,6 +237,7 @@ impl Session {
         requires limited { IsLimited (asked query.now) }
         requires open { IsOpen self.old (T.view station.old) }
         ensures tells { Tells (λ gaz reply. (reply ≡ if_loaded (state_of gaz) (rows (search_of gaz (asked query.now)))) ⊎ ((reply ≡ refused memory) × AsksName (asked query.now).name)) (T.view station.old) (T.view station.new) result }
+        ensures reads { OverMirror (T.view station.old) (λ gaz. ReadsWithin (most_read gaz (asks_search (asked query.now))) (T.view station.old) (T.view station.new)) }
         ensures kept { self.new ≡ self.old }
         ensures reports { Reports (T.view station.old) (T.view station.new) result }
     {
@@ -226,14 +246,14 @@ impl Session {
         }
         match search(
             self.alloc,
-            &mut self.mirror,
+            &self.mirror,
             station,
             query,
             &mut self.buf,
             &mut self.best,
         ) {
             Ok(()) => tell_rows(
-                &mut self.mirror,
+                &self.mirror,
                 station,
                 &mut self.buf,
                 self.best.cut(query.start, query.max),
@@ -246,7 +266,7 @@ impl Session {
     }
 
     /// Tells the first children of the place with the id.
-    pub(crate) fn tell_children<T: Station>(
+    pub(crate) fn tell_children<T: PagedStation>(
         &mut self,
         station: &mut T,
         id: u32,
@@ -255,6 +275,7 @@ impl Session {
         requires max { max ≤ 1000 }
         requires open { IsOpen self.old (T.view station.old) }
         ensures tells { Tells (λ gaz reply. reply ≡ if_loaded (state_of gaz) (rows (children_of gaz id max))) (T.view station.old) (T.view station.new) result }
+        ensures reads { OverMirror (T.view station.old) (λ gaz. ReadsWithin (most_read gaz (asks_children id max)) (T.view station.old) (T.view station.new)) }
         ensures kept { self.new ≡ self.old }
         ensures reports { Reports (T.view station.old) (T.view station.new) result }
     {
@@ -262,7 +283,7 @@ impl Session {
             return refuse(station, &Refusal::NotLoaded);
         }
         match children(
-            &mut self.mirror,
+            &self.mirror,
             station,
             id,
             max,
@@ -270,7 +291,7 @@ impl Session {
             &mut self.best,
         ) {
             Ok(()) => tell_rows(
-                &mut self.mirror,
+                &self.mirror,
                 station,
                 &mut self.buf,
                 self.best.cut(0, max),
@@ -281,13 +302,14 @@ impl Session {
     }
 
     /// Tells the chain of the place with the id, from the top down.
-    pub(crate) fn tell_chain<T: Station>(
+    pub(crate) fn tell_chain<T: PagedStation>(
         &mut self,
         station: &mut T,
         id: u32,
     ) -> Result<(), EndFault>
         requires open { IsOpen self.old (T.view station.old) }
         ensures tells { Tells (λ gaz reply. reply ≡ if_loaded (state_of gaz) (rows (hierarchy_of gaz id))) (T.view station.old) (T.view station.new) result }
+        ensures reads { OverMirror (T.view station.old) (λ gaz. ReadsWithin (most_read gaz (asks_chain id)) (T.view station.old) (T.view station.new)) }
         ensures kept { self.new ≡ self.old }
         ensures reports { Reports (T.view station.old) (T.view station.new) result }
     {
@@ -295,11 +317,11 @@ impl Session {
             return refuse(station, &Refusal::NotLoaded);
         }
         let mut ids = [0; 64];
-        match chain(&mut self.mirror, station, id, &mut self.buf, &mut ids) {
+        match chain(&self.mirror, station, id, &mut self.buf, &mut ids) {
             Ok(count) => {
                 let above = &mut ids[..count];
                 above.reverse();
-                tell_rows(&mut self.mirror, station, &mut self.buf, above, 0)
+                tell_rows(&self.mirror, station, &mut self.buf, above, 0)
             }
             Err(fault) => Err(end_of(fault)),
         }

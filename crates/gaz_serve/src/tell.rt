@@ -1,5 +1,5 @@
 //! Replies: what is told of a change, of a line, and of rows.
-ghost use Rattle.std.specs.Prelude.{◌≡◌, ◌≢◌, ◌+◌, ◌<◌, ◌≤◌, ◌^◌, length, map, option_to_list, option_copied, ◌∷◌, [], Ok, Err, IsTrue, IsSome, IfOk, IfErr, OnOk};
+ghost use Rattle.std.specs.Prelude.{◌≡◌, ◌≢◌, ◌+◌, ◌*◌, ◌<◌, ◌≤◌, ◌^◌, length, map, option_to_list, option_copied, ◌∷◌, [], Ok, Err, IsTrue, IsSome, IfOk, IfErr, OnOk};
 ghost use Rattle.gaz_pages.specs.Fits.{Fits};
 ghost use Rattle.gaz_pages.specs.Held.{root_of};
 ghost use Rattle.gaz_plain.specs.Kin.{rows_with};
@@ -7,12 +7,14 @@ ghost use Rattle.gaz_outside.specs.Outside.{HasCause, Prints};
 ghost use Rattle.gaz_reply.specs.Reply.{done, refused, rows, with_ends, end_line, refusal_of as refusal_in};
 ghost use Rattle.gaz_turns.specs.Steps.{AreasKept, IsCutIn};
 ghost use Rattle.gaz_rows.specs.Store.{TakesNoMemory};
+ghost use Rattle.gaz_ask.specs.Asked.{OverMirror};
 ghost use Rattle.gaz_serve.specs.Change.{told_by};
 ghost use Rattle.gaz_serve.specs.Step.{EndsOnce, IsSound, Replies, Reports};
 ghost use Rattle.gaz_serve.specs.Tell.{ends_by, IsPrinted, TellsRest};
 
 use crate::step::EndFault;
 use gaz_ask::get_row;
+use gaz_framed::PagedStation;
 use gaz_outside::{Failed, Station};
 use gaz_pages::Mirror;
 use gaz_reply::{Done, Refusal, write_done, write_end, write_refusal, write_row};
@@ -53,6 +55,7 @@ fn refusal_of(fault: ChangeFault) -> Result<Refusal<'static>, EndFault>
 pub(crate) fn refuse<T: Station>(station: &mut T, why: &Refusal<'_>) -> Result<(), EndFault>
     ensures replies { Replies (refused (refusal_in why.now)) (T.view station.old) (T.view station.new) result }
     ensures sound { IsSound result }
+    ensures unread { (T.view station.new).reads ≡ (T.view station.old).reads }
     ensures reports { Reports (T.view station.old) (T.view station.new) result }
 {
     match write_refusal(station, why) {
@@ -74,6 +77,7 @@ pub(crate) fn tell_change<T: Station>(
     ensures sound_refused { IfErr made (λ fault. IfOk (told_by fault) (λ why. IsSound result)) }
     ensures cause { OnOk made (EndsOnce (T.view station.old).faults (T.view station.new).faults result) }
     ensures cause_refused { IfErr made (λ fault. IfOk (told_by fault) (λ why. EndsOnce (T.view station.old).faults (T.view station.new).faults result)) }
+    ensures unwritten { (T.view station.new).writes ≡ (T.view station.old).writes }
     ensures told { (T.view station.new).is_told ≡ (T.view station.old).is_told }
 {
     match made {
@@ -107,6 +111,7 @@ pub(crate) fn write_found<T: Station>(station: &mut T, line: Option<&[u8]>) -> R
 pub(crate) fn tell_found<T: Station>(station: &mut T, line: Option<&[u8]>) -> Result<(), EndFault>
     ensures replies { Replies (rows (option_to_list (option_copied line.entry))) (T.view station.old) (T.view station.new) result }
     ensures sound { IsSound result }
+    ensures unread { (T.view station.new).reads ≡ (T.view station.old).reads }
     ensures reports { Reports (T.view station.old) (T.view station.new) result }
 {
     match write_found(station, line) {
@@ -143,20 +148,21 @@ impl OfRow for (i64, u32) {
 
 /// Prints the rows with these ids, behind so many that were printed, and then the number of all. It calls itself once for each id,
 /// and no question tells more than 1,000. A row is read before it is printed: where it can't be, the rows before it stand in the text.
-pub(crate) fn tell_rows<T: Station, I: OfRow>(
-    mirror: &mut Mirror,
+pub(crate) fn tell_rows<T: PagedStation, I: OfRow>(
+    mirror: &Mirror,
     station: &mut T,
     buf: &mut [u8],
     rows: &[I],
     told: u64,
 ) -> Result<(), EndFault>
     requires few { told + length rows.now < 2 ^ 64 }
-    requires loaded { IsSome (root_of mirror.old) }
-    requires fits { IsTrue (T.view station.old).is_told → Fits (root_of mirror.old) (T.view station.old) }
+    requires loaded { IsSome (root_of mirror.now) }
+    requires fits { IsTrue (T.view station.old).is_told → Fits (root_of mirror.now) (T.view station.old) }
     requires room { 65535 ≤ length buf.old }
     ensures tells { TellsRest told (λ gaz. rows_with gaz (map I.names rows.now)) (T.view station.old) (T.view station.new) result }
-    ensures root { root_of mirror.new ≡ root_of mirror.old }
     ensures size { length buf.new ≡ length buf.old }
+    // At most 23 pages for each row.
+    ensures reads { OverMirror (T.view station.old) (λ gaz. (T.view station.new).reads ≤ (T.view station.old).reads + 23 * length rows.now) }
     ensures reports { Reports (T.view station.old) (T.view station.new) result }
 {
     match rows {
@@ -178,6 +184,7 @@ fn tell_end<T: Station>(station: &mut T, told: u64) -> Result<(), EndFault>
     ensures moments { IsCutIn (with_ends (end_line told ∷ [])) (T.view station.old) (T.view station.new) }
     ensures areas { AreasKept (T.view station.old) (T.view station.new) }
     ensures sound { IsSound result }
+    ensures unread { (T.view station.new).reads ≡ (T.view station.old).reads }
     ensures reports { Reports (T.view station.old) (T.view station.new) result }
 {
     match write_end(station, told) {

@@ -8,10 +8,11 @@ use Rattle.gaz_reply.specs.Reply.{refused}
 use Rattle.gaz_turns.specs.Turns.{state_after}
 use Rattle.gaz_turns.proofs.Told.{still_mirrors}
 use Rattle.gaz_outside.specs.declared.source.Failed.{Failed}
-use Rattle.gaz_serve.specs.declared.step.EndFault.{EndFault}
-use Rattle.gaz_serve.proofs.Changing.{closes_on, closes_told}
+use Rattle.gaz_words.specs.Grammar.{request_in}
+use Rattle.gaz_serve.specs.Bounds.{most_written_by, WritesWithin}
+use Rattle.gaz_serve.proofs.Changing.{closes_on, closes_told, when_told}
 use Rattle.gaz_serve.proofs.Fitting.{open_still}
-use Rattle.gaz_serve.proofs.Running.{way_first, run_ends, run_fails, run_cut, next_way, long_step, long_told, line_told, goes_past}
+use Rattle.gaz_serve.proofs.Running.{way_first, run_ends, run_fails, run_cut, next_way, long_step, long_reads, long_writes, long_told, line_told, goes_past}
 use Rattle.gaz_serve.proofs.Telling.{tells_nothing, tells_more, tells_cut, tells_all}
 use Rattle.gaz_serve.proofs.Taken.{counted_start, counted_line, answered_nothing, answered_more, answered_all, answered_next}
 use Rattle.gaz_serve.proofs.run.run.Goals as goal
@@ -81,6 +82,9 @@ returns-in-Err-Station-clause-answers g c told shelf_told first mirrors =
     let shelf_here = on_told _ _ i.shelf_told shelf_told in
     run_cut first _ _ _ _ _ _ _ way c.in-Ok-Some.line.now gave.line.cuts.is_line _ (line_told _ _ c.in-Ok-Some.line.now _ _ gave.gives way.told) shelf_here (g.F.Shelf.view c.answer.new.shelf) _ here i.told c.answer.ensures.reports.told (λ a told. g.met.T.Station.may_stay c.loop-line.station a told) (λ a told. g.met.T.Station.may_stay c.answer.new.station a told) (λ t o told le leaves. g.met.T.Station.counts_now c.answer.new.station t o told le leaves) 3 _ refl heard c.in-Err-Station.field-0
     (rw c.in-Err-Station.is at (c.answer.ensures.step here shelf_here (state_after first way.turns) way.mirrors))
+    (c.answer.ensures.reads here (state_after first way.turns).gaz way.mirrors)
+    (when_told (λ files. WritesWithin (most_written_by files (request_in c.in-Ok-Some.line.now)) (g.T.Station.view c.loop-line.station) (g.T.Station.view c.answer.new.station)) (g.F.Shelf.view c.answer.new.shelf)
+    (on_told _ _ (closes_told c.answer.ensures.closes.0 (g.F.Shelf.view c.loop-line.shelf) (g.F.Shelf.view c.answer.new.shelf) c.answer.ensures.closes.1) shelf_here) c.answer.ensures.writes)
 
 pub returns-in-Err-Station-clause-failures : goal.returns-in-Err-Station-clause-failures
 returns-in-Err-Station-clause-failures g c =
@@ -97,7 +101,10 @@ loop-line-preserved-in-Ok g c =
           let here = on_told _ _ i.told told in
           let shelf_here = on_told _ _ i.shelf_told shelf_told in
           next_way first _ _ _ _ _ _ _ way c.in-Ok-Some.line.now gave.line.cuts.is_line _ (line_told _ _ c.in-Ok-Some.line.now _ _ gave.gives way.told) shelf_here (g.F.Shelf.view c.answer.new.shelf) _ here i.told c.answer.ensures.reports.told (λ a told. g.met.T.Station.may_stay c.loop-line.station a told) _ gave.numbers
-          (rw c.in-Ok.is at (c.answer.ensures.step here shelf_here (state_after first way.turns) way.mirrors));
+          (rw c.in-Ok.is at (c.answer.ensures.step here shelf_here (state_after first way.turns) way.mirrors))
+          (c.answer.ensures.reads here (state_after first way.turns).gaz way.mirrors)
+          (when_told (λ files. WritesWithin (most_written_by files (request_in c.in-Ok-Some.line.now)) (g.T.Station.view c.loop-line.station) (g.T.Station.view c.answer.new.station)) (g.F.Shelf.view c.answer.new.shelf)
+          (on_told _ _ (closes_told c.answer.ensures.closes.0 (g.F.Shelf.view c.loop-line.shelf) (g.F.Shelf.view c.answer.new.shelf) c.answer.ensures.closes.1) shelf_here) c.answer.ensures.writes);
       lasts = λ told gaz mirrors. let so_far = i.lasts told gaz mirrors in c.in-Ok.ensures.lasts.next (on_told _ _ i.told told) so_far.0 so_far.1;
       failures = tells_more _ _ _ _ i.failures (g.F.Shelf.view c.answer.new.shelf) _ (rw c.in-Ok.is at c.answer.ensures.tells);
       opened = c.in-Ok.ensures.«open»;
@@ -130,6 +137,8 @@ returns-in-Err-clause-answers g c told shelf_told first mirrors =
     let line = long_told _ _ gave.refuses.line _ _ long gave.refuses.cuts.is_line gave.gives way.told in
     run_cut first _ _ _ _ _ _ _ way line.0 line.2 _ line.3 shelf_here (g.F.Shelf.view c.loop-line.shelf) _ here i.told c.refuse_long.ensures.told (λ a told. g.met.T.Station.may_stay c.loop-line.station a told) (λ a told. g.met.T.Station.may_stay c.refuse_long.new.station a told) (λ t o told le leaves. g.met.T.Station.counts_now c.refuse_long.new.station t o told le leaves) 3 _ refl heard c.in-Err.field-0
     (long_step line.0 (state_after first way.turns) (g.F.Shelf.view c.loop-line.shelf) _ _ _ (λ o told left. g.met.T.Station.only_now c.loop-line.station o told left) line.1 (rw c.in-Err.is at c.refuse_long.ensures.replies.printed) c.refuse_long.ensures.replies.moments c.refuse_long.ensures.replies.areas)
+    (long_reads line.0 (state_after first way.turns) (g.T.Station.view c.loop-line.station) (g.T.Station.view c.refuse_long.new.station) line.1 c.refuse_long.ensures.unread)
+    (long_writes line.0 (g.F.Shelf.view c.loop-line.shelf).files (g.T.Station.view c.loop-line.station) (g.T.Station.view c.refuse_long.new.station) line.1 c.refuse_long.ensures.replies.areas.unwritten)
 
 pub returns-in-Err-clause-failures : goal.returns-in-Err-clause-failures
 returns-in-Err-clause-failures g c =
@@ -149,7 +158,9 @@ loop-line-preserved g c =
           let shelf_here = on_told _ _ i.shelf_told shelf_told in
           let line = long_told _ _ gave.refuses.line _ _ long gave.refuses.cuts.is_line gave.gives way.told in
           next_way first _ _ _ _ _ _ _ way line.0 line.2 _ line.3 shelf_here (g.F.Shelf.view c.loop-line.shelf) _ here i.told c.refuse_long.ensures.told (λ a told. g.met.T.Station.may_stay c.loop-line.station a told) {E = Failed} _ gave.numbers.0
-          (long_step line.0 (state_after first way.turns) (g.F.Shelf.view c.loop-line.shelf) _ _ _ (λ o told left. g.met.T.Station.only_now c.loop-line.station o told left) line.1 (rw c.in_default.is at c.refuse_long.ensures.replies.printed) c.refuse_long.ensures.replies.moments c.refuse_long.ensures.replies.areas);
+          (long_step line.0 (state_after first way.turns) (g.F.Shelf.view c.loop-line.shelf) _ _ _ (λ o told left. g.met.T.Station.only_now c.loop-line.station o told left) line.1 (rw c.in_default.is at c.refuse_long.ensures.replies.printed) c.refuse_long.ensures.replies.moments c.refuse_long.ensures.replies.areas)
+          (long_reads line.0 (state_after first way.turns) (g.T.Station.view c.loop-line.station) (g.T.Station.view c.refuse_long.new.station) line.1 c.refuse_long.ensures.unread)
+          (long_writes line.0 (g.F.Shelf.view c.loop-line.shelf).files (g.T.Station.view c.loop-line.station) (g.T.Station.view c.refuse_long.new.station) line.1 c.refuse_long.ensures.replies.areas.unwritten);
       lasts = λ told gaz mirrors. let so_far = i.lasts told gaz mirrors in (so_far.0, still_mirrors so_far.0 (g.T.Station.view c.loop-line.station) (g.T.Station.view c.refuse_long.new.station) (on_told _ _ i.told told) c.refuse_long.ensures.replies.areas so_far.1);
       failures = tells_more _ _ _ _ i.failures {E = Failed} (g.F.Shelf.view c.loop-line.shelf) _
           (record { reply = refused (request (codes "length")); printed = rw c.in_default.is at c.refuse_long.ensures.replies.printed; failed = record { faults = refl; last = refl } });

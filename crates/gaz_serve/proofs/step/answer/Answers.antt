@@ -1,11 +1,10 @@
-use Rattle.std.proofs.Common.{◌≡◌, ◌∙◌, Bool, IsTrue, ap, sym, subst, Ok}
-use Rattle.gaz_outside.specs.Outside.{ShelfView}
+use Rattle.std.proofs.Common.{◌≡◌, Bool, IsTrue, sym, subst}
 use Rattle.gaz_num.specs.Refusal.{request}
 use Rattle.gaz_reply.specs.Reply.{refused}
 use Rattle.gaz_rows.specs.Content.{Mirrors}
 use Rattle.gaz_words.specs.Grammar.{asked_of}
 use Rattle.gaz_install.proofs.Named.{dated_by}
-use Rattle.gaz_turns.specs.Turns.{State, opens}
+use Rattle.gaz_turns.specs.Turns.{State}
 use Rattle.gaz_turns.proofs.Told.{told_given}
 use Rattle.gaz_serve.specs.Change.{Closes}
 use Rattle.gaz_serve.specs.Session.{dated_state}

@@ -1,9 +1,11 @@
-use Rattle.std.proofs.Common.{◌≡◌, ℕ, Bool, IsTrue, refl, sym, subst, arith, inl, inr, ◌∙◌}
+use Rattle.std.proofs.Common.{◌≡◌, ℕ, Bool, IsTrue, ◌+◌, refl, sym, subst, arith, inl, inr, ◌∙◌}
 use Rattle.gaz_outside.specs.Outside.{RisesOnce, left_of}
 use Rattle.gaz_rows.specs.Holds.{AllHold}
 use Rattle.gaz_turns.proofs.Told.{mirrors_now, same_printed}
+use Rattle.gaz_serve.specs.Bounds.{most_opened, most_read_in, most_written_in}
 use Rattle.gaz_serve.specs.Ran.{IsUnopened}
 use Rattle.gaz_serve.proofs.Answered.{answered, run_opened, stops_opened, exit_opened, with_unopened, opened_status}
+use Rattle.gaz_serve.proofs.Reading.{opened_reads, opened_writes}
 use Rattle.gaz_serve.proofs.Unopened.{opens_nothing}
 use Rattle.gaz_serve.proofs.Refusing.{served_unopened, is_fresh, refused}
 use Rattle.gaz_serve.proofs.Telling.{tells_from}
@@ -14,7 +16,7 @@ returns-in-Err g c =
     served_unopened g.S.Source.view g.F.Shelf.view g.T.Station.view c.args.only_empty c.args.requests.now c.args.shelf.now c.args.station.now c.args.station.now 5 (inr (inl refl)) (g.met.F.Shelf.faults_fit c.args.shelf.now)
     (opens_nothing (g.T.Station.view c.args.station.now) (λ o told left. g.met.T.Station.only_now c.args.station.now o told left))
     (λ t o told le leaves. g.met.T.Station.counts_now c.args.station.now t o told le leaves)
-    (λ is. absurd (omega (arith, is))) (λ is. absurd (omega (arith, is))) (λ is. refl)
+    (λ is. absurd (omega (arith, is))) (λ is. absurd (omega (arith, is))) (λ is. refl) (λ told slots redo. omega arith)
 
 pub returns-in-Err-Station : goal.returns-in-Err-Station
 returns-in-Err-Station g c =
@@ -22,7 +24,7 @@ returns-in-Err-Station g c =
     served_unopened g.S.Source.view g.F.Shelf.view g.T.Station.view c.args.only_empty c.args.requests.now c.args.shelf.now c.args.station.now c.start.new.station 3 (inl refl) (g.met.F.Shelf.faults_fit c.args.shelf.now)
     e.opening
     (λ t o told le leaves. g.met.T.Station.counts_now c.start.new.station t o told le leaves)
-    (λ is. absurd (omega (arith, is))) (λ is. rw c.in-Err-Station.field-0-is at c.in-Err-Station.ensures.cause) (λ is. absurd (is refl))
+    (λ is. absurd (omega (arith, is))) (λ is. rw c.in-Err-Station.field-0-is at c.in-Err-Station.ensures.cause) (λ is. absurd (is refl)) e.reads
 
 pub returns-in-Err-Memory : goal.returns-in-Err-Memory
 returns-in-Err-Memory g c =
@@ -30,7 +32,7 @@ returns-in-Err-Memory g c =
     served_unopened g.S.Source.view g.F.Shelf.view g.T.Station.view c.args.only_empty c.args.requests.now c.args.shelf.now c.args.station.now c.start.new.station 5 (inr (inl refl)) (g.met.F.Shelf.faults_fit c.args.shelf.now)
     e.opening
     (λ t o told le leaves. g.met.T.Station.counts_now c.start.new.station t o told le leaves)
-    (λ is. absurd (omega (arith, is))) (λ is. absurd (omega (arith, is))) (λ is. rw c.in-Err-Memory.field-0-is at c.in-Err-Memory.ensures.cause)
+    (λ is. absurd (omega (arith, is))) (λ is. absurd (omega (arith, is))) (λ is. rw c.in-Err-Memory.field-0-is at c.in-Err-Memory.ensures.cause) e.reads
 
 pub returns : goal.returns
 returns g c =
@@ -38,7 +40,7 @@ returns g c =
     served_unopened g.S.Source.view g.F.Shelf.view g.T.Station.view c.args.only_empty c.args.requests.now c.args.shelf.now c.args.station.now c.start.new.station 6 (inr (inr refl)) (g.met.F.Shelf.faults_fit c.args.shelf.now)
     e.opening
     (λ t o told le leaves. g.met.T.Station.counts_now c.start.new.station t o told le leaves)
-    (λ is told. (c.in-Err-NotAMirror.ensures.none told _ c.in-Err-NotAMirror.field-0-is).none) (λ is. absurd (omega (arith, is))) (λ is. rw c.in-Err-NotAMirror.field-0-is at c.in-Err-NotAMirror.ensures.cause)
+    (λ is told. (c.in-Err-NotAMirror.ensures.none told _ c.in-Err-NotAMirror.field-0-is).none) (λ is. absurd (omega (arith, is))) (λ is. rw c.in-Err-NotAMirror.field-0-is at c.in-Err-NotAMirror.ensures.cause) e.reads
 
 pub returns-in-Ok-start : goal.returns-in-Ok-start
 returns-in-Ok-start g c =
@@ -59,9 +61,12 @@ returns-in-Ok-start g c =
         answers = λ told shelf_told first mirrors.
             let here = subst (λ (b : Bool). IsTrue b) (sym opening.counts.told) told in
             let holds : IsTrue old.is_told → AllHold mid first.gaz = λ told. c.in-Ok-start.ensures.holds told first.gaz mirrors in
-            let run = e.answers here shelf_told first (mirrors_now mid first.gaz (λ a. g.met.T.Station.may_stay c.start.new.station a here) (holds told)) in
+            let within = e.answers here shelf_told first (mirrors_now mid first.gaz (λ a. g.met.T.Station.may_stay c.start.new.station a here) (holds told)) in
+            let run = within.run in
             answered first (left_of (g.S.Source.view c.args.requests.now)) (left_of (g.S.Source.view c.run.new.source)) (g.S.Source.view c.args.requests.now).faults (g.S.Source.view c.run.new.source).faults shelf shelf_now old new (IsUnopened c.args.requests.now c.run.new.source c.args.shelf.now c.run.new.shelf old new c.run.result) c.run.result
             (run_opened first _ _ shelf shelf_now old mid new c.run.result opening holds run)
+            (λ told slots redo. opened_reads (most_read_in first run.turns) old mid new (most_opened slots) (s.reads told slots redo) within.reads)
+            (λ told slots redo. opened_writes (most_written_in first run.turns) old mid new (slots + 1) (let most = opening.writes told slots redo in omega (arith, most)) within.writes)
             (stops_opened first _ _ shelf shelf_now old mid new c.run.result opening holds run)
             (inr (exit_opened first _ _ shelf shelf_now old mid new c.run.result opening holds run e.told))
             failed e.source others;

@@ -1,10 +1,8 @@
-use Rattle.std.proofs.Common.{◌≡◌, ◌≢◌, ⊎_elim, inl, inr, Option, IsTrue, ap, sym, subst, refl, ◌∙◌, Ok, Err}
-use Rattle.std.specs.Prelude.{IfSome, IfErr, option_map}
+use Rattle.std.proofs.Common.{⊎_elim, inl, inr, ap, sym, refl, ◌∙◌, Ok}
+use Rattle.std.specs.Prelude.{option_map}
 use Rattle.gaz_outside.specs.Outside.{files_of}
 use Rattle.gaz_page.specs.declared.tree_root.Root.{Root}
-use Rattle.gaz_pages.specs.Fits.{Fits}
-use Rattle.gaz_plain.specs.Gazetteer.{Gazetteer}
-use Rattle.gaz_plain.specs.Load.{Files, day, day_files, in_sequence}
+use Rattle.gaz_plain.specs.Load.{day, day_files, in_sequence}
 use Rattle.gaz_rows.specs.Content.{Mirrors}
 use Rattle.gaz_words.specs.Grammar.{asks_day}
 use Rattle.gaz_reply.specs.declared.reply.Done.TheVariants as done_of

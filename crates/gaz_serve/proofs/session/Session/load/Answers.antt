@@ -1,10 +1,6 @@
-use Rattle.std.proofs.Common.{◌≡◌, ◌≢◌, ⊎_elim, inl, inr, Option, IsTrue, ap, sym, subst, refl, ◌∙◌, Ok, Err}
-use Rattle.std.specs.Prelude.{IfSome, IfErr}
+use Rattle.std.proofs.Common.{refl}
 use Rattle.gaz_outside.specs.Outside.{files_of}
-use Rattle.gaz_page.specs.declared.tree_root.Root.{Root}
-use Rattle.gaz_pages.specs.Fits.{Fits}
-use Rattle.gaz_plain.specs.Gazetteer.{Gazetteer}
-use Rattle.gaz_plain.specs.Load.{Files, load}
+use Rattle.gaz_plain.specs.Load.{load}
 use Rattle.gaz_rows.specs.Content.{Mirrors}
 use Rattle.gaz_words.specs.Grammar.{asks_load}
 use Rattle.gaz_reply.specs.declared.reply.Done.TheVariants as done_of

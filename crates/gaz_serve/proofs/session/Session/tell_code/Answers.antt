@@ -1,4 +1,4 @@
-use Rattle.std.proofs.Common.{ℕ, List, ◌≡◌, ◌∷◌, [], ◌∙◌, sym, subst, ap, take, Ok, Err}
+use Rattle.std.proofs.Common.{ℕ, ◌+◌, ◌*◌, ◌≤◌, List, ◌∷◌, [], ◌∙◌, sym, subst, ap, take, Err, arith}
 use Rattle.std.specs.Prelude.{is_some, option_to_list}
 use Rattle.gaz_num.specs.declared.words.Table.TheVariants.{Codes}
 use Rattle.gaz_plain.specs.Gazetteer.{Gazetteer, line_with}
@@ -6,6 +6,7 @@ use Rattle.gaz_serve.specs.declared.step.EndFault.{EndFault}
 use Rattle.gaz_serve.specs.Step.{IsSound}
 use Rattle.gaz_serve.proofs.Rows.{sound_end, whole_buffer}
 use Rattle.gaz_serve.proofs.Meeting.{tells_unloaded, tells_found, tells_unfound}
+use Rattle.gaz_rows.specs.Found.{like_codes}
 use Rattle.gaz_serve.proofs.session.Session.tell_code.Goals as goal
 use Rattle.gaz_serve.proofs.session.Session.tell_code.Goals.{in-Ok-Some, in-Ok-None, in-Err}
 
@@ -33,4 +34,16 @@ returns-clause-tells g c =
       | in-Err w ↦ rw (w.station-is, w.result-is)
           (tells_unfound lines c.args.self.now.root v0 fits some v1 c.get_code.ensures.leaves.reads w.end_of.result
           (λ told gaz mirrors. subst (λ (e : EndFault). IsSound {A = Unit {0}} (Err e)) (sym w.end_of.ensures) (sound_end w.in-Err.fault (w.in-Err.ensures.damaged told gaz mirrors))))
+    ]
+
+-- the look is all that reads
+pub returns-clause-reads : goal.returns-clause-reads
+returns-clause-reads g c told gaz mirrors =
+    let v0 = g.T.Station.view c.args.station.now in
+    let v1 = g.T.Station.view c.get_code.new.station in
+    let most = subst (λ (code : List ℕ). v1.reads ≤ v0.reads + 29 * (like_codes gaz code + 1)) c.as_bytes.ensures.value (c.get_code.ensures.reads told gaz mirrors) in
+    elim c.match-get_code.branch [
+      | in-Ok-Some w ↦ rw w.station-is (let same = w.tell_found.ensures.unread in omega (arith, most, same))
+      | in-Ok-None w ↦ rw w.station-is (let same = w.tell_found-in-Ok-None.ensures.unread in omega (arith, most, same))
+      | in-Err w ↦ rw w.station-is most
     ]

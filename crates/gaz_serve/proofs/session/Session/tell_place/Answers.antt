@@ -1,4 +1,4 @@
-use Rattle.std.proofs.Common.{ℕ, List, ◌≡◌, ◌∷◌, [], ◌∙◌, sym, subst, ap, take, Ok, Err}
+use Rattle.std.proofs.Common.{ℕ, List, ◌∷◌, [], ◌∙◌, sym, subst, ap, take, Err, arith}
 use Rattle.std.specs.Prelude.{is_some, option_to_list}
 use Rattle.gaz_num.specs.declared.words.Table.TheVariants.{Rows}
 use Rattle.gaz_plain.specs.Gazetteer.{Gazetteer, line_with}
@@ -33,4 +33,14 @@ returns-clause-tells g c =
       | in-Err w ↦ rw (w.station-is, w.result-is)
           (tells_unfound lines c.args.self.now.root v0 fits some v1 c.get_row.ensures.leaves.reads w.end_of.result
           (λ told gaz mirrors. subst (λ (e : EndFault). IsSound {A = Unit {0}} (Err e)) (sym w.end_of.ensures) (sound_end w.in-Err.fault (w.in-Err.ensures.damaged told gaz mirrors))))
+    ]
+
+-- the look is all that reads
+pub returns-clause-reads : goal.returns-clause-reads
+returns-clause-reads g c told gaz mirrors =
+    let most = c.get_row.ensures.reads told gaz mirrors in
+    elim c.match-get_row.branch [
+      | in-Ok-Some w ↦ rw w.station-is (let same = w.tell_found.ensures.unread in omega (arith, most, same))
+      | in-Ok-None w ↦ rw w.station-is (let same = w.tell_found-in-Ok-None.ensures.unread in omega (arith, most, same))
+      | in-Err w ↦ rw w.station-is most
     ]

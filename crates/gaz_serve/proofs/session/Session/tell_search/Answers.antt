@@ -1,15 +1,16 @@
-use Rattle.std.proofs.Common.{ℕ, List, ◌≡◌, ◌∙◌, inl, inr, refl, sym, subst, ap, Ok, Err}
+use Rattle.std.proofs.Common.{◌≡◌, ◌∙◌, inl, inr, length, refl, sym, ap, Err}
 use Rattle.std.specs.Prelude.{◌⊎◌, is_some, Result}
 use Rattle.gaz_num.specs.Refusal.{memory}
 use Rattle.gaz_outside.specs.Station.{StationView}
 use Rattle.gaz_pick.specs.Asked.{Asked, asked}
-use Rattle.gaz_plain.specs.Gazetteer.{Gazetteer}
-use Rattle.gaz_plain.specs.Search.{rows_at, search_of}
-use Rattle.gaz_reply.specs.Reply.{Reply, refused}
+use Rattle.gaz_plain.specs.Search.{answer_pairs, rows_at, search_of}
+use Rattle.gaz_reply.specs.Reply.{refused}
 use Rattle.gaz_turns.specs.Turns.{AsksName}
 use Rattle.gaz_serve.specs.declared.step.EndFault.{EndFault}
 use Rattle.gaz_serve.specs.declared.step.EndFault.TheVariants.{Station, Damaged}
-use Rattle.gaz_serve.specs.Step.{Tells, IsSound}
+use Rattle.gaz_serve.specs.Step.{Tells}
+use Rattle.gaz_plan.specs.Candidates.{most_reads}
+use Rattle.gaz_serve.proofs.Reading.{rows_read}
 use Rattle.gaz_serve.proofs.Rows.{rows_named, wanting}
 use Rattle.gaz_serve.proofs.Meeting.{TellsLines, tells_unloaded, tells_rest, tells_unfound, tells_starved, tells_weaker}
 use Rattle.gaz_serve.proofs.session.Session.tell_search.Goals as goal
@@ -61,3 +62,10 @@ returns-in-Err-Damaged-clause-tells g c =
     may_tell (asked c.args.query.now) v0 v1 (Err (Damaged c.in-Err-Damaged.page))
     (tells_unfound (λ gaz. search_of gaz (asked c.args.query.now)) c.args.self.now.root v0 c.requires.«open».fits some v1 c.search.ensures.leaves.reads (Damaged c.in-Err-Damaged.page)
     (λ told gaz mirrors. rw c.in-Err-Damaged.field-0-is at (c.in-Err-Damaged.ensures.damaged told gaz mirrors)))
+
+-- the look for the answer, and its rows
+pub returns-in-Ok-clause-reads : goal.returns-in-Ok-clause-reads
+returns-in-Ok-clause-reads g c =
+    let asks = asked c.args.query.now in
+    rows_read (g.T.Station.view c.args.station.now) (g.T.Station.view c.search.new.station) (g.T.Station.view c.tell_rows.new.station) (length c.cut.result.now) (λ gaz. most_reads gaz asks) (λ gaz. length (answer_pairs gaz asks))
+    c.search.ensures.leaves.reads c.search.ensures.reads (λ told gaz mirrors. ap length (c.cut.ensures ∙ c.in-Ok.ensures.answer told gaz mirrors)) c.tell_rows.ensures.reads
