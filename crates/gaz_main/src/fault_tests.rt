@@ -1,14 +1,13 @@
 //! Runs of a load, a day and two gets in which one call fails, and what the next run finds.
 use crate::runs::{
     CALLS, FILES, REPLIES, REQUESTS, acknowledged, are_kept, changes_after, changes_found,
-    is_synced, replies_within, serve_on,
+    is_synced, replies_within, run_on, serve_on,
 };
 use crate::worked::{
     ADMIN1, ADMIN2, ALT_DELETES, ALT_MODIFICATIONS, ALTERNATES, B2, C3, COUNTRIES, DELETES, DUMP,
-    LINKS, MODIFICATIONS, OneByte, joined, shelf_of, source_of, station_of, words_of,
+    LINKS, MODIFICATIONS, OneByte, joined, shelf_of, source_of, station_of,
 };
 use gaz_outside::{MemStation, Source};
-use gaz_serve::serve;
 use std::alloc::{AllocError, Global};
 use std::process::Abort;
 use std::test::Fail;
@@ -17,8 +16,7 @@ use std::test::Fail;
 fn each_call_of_the_station_that_fails_ends_the_run_with_3(rt: HostRuntime) -> Result<(), Fail> {
     let alloc = rt.alloc();
     for call in 1..=CALLS + 1 {
-        let mut station = station_of(alloc, &[call])?;
-        let status = serve_on(alloc, &mut station, REQUESTS)?;
+        let (station, status) = serve_on(alloc, station_of(alloc, &[call])?, REQUESTS)?;
         assert_eq!(rt; status, if call <= CALLS { 3 } else { 0 }, "call {call}");
         assert!(rt; REPLIES.starts_with(station.printed()), "call {call}");
         assert_eq!(rt; station.printed() == REPLIES, call > CALLS, "call {call}");
@@ -33,12 +31,10 @@ fn each_call_of_the_station_that_fails_ends_the_run_with_3(rt: HostRuntime) -> R
 
 /// Runs the requests over a shelf of which one call fails, and answers the station and the status.
 fn run_over_a_failing_shelf(alloc: Global, call: u64) -> Result<(MemStation, u8), AllocError> {
-    let words = words_of(alloc, "serve")?;
     let mut source = source_of(alloc, REQUESTS, &[])?;
     let mut shelf = shelf_of(alloc, FILES, &[call])?;
-    let mut station = station_of(alloc, &[])?;
-    let status = serve(alloc, &words, &mut source, &mut shelf, &mut station);
-    Ok((station, status))
+    let station = station_of(alloc, &[])?;
+    run_on(alloc, "serve", &mut source, &mut shelf, station)
 }
 
 /// What is told where this file can't be read, which is one of the load where no change is made, and else one of the day.
@@ -110,12 +106,12 @@ fn expect_told(
     text: &[u8],
     changes: u64,
 ) -> Result<(), Fail> {
-    let (mut station, status) = run_over_a_failing_shelf(alloc, call)?;
+    let (station, status) = run_over_a_failing_shelf(alloc, call)?;
     assert_eq!(rt; status, 0, "call {call}");
     assert_eq!(rt; station.printed(), text, "call {call}");
     assert!(rt; is_synced(&station)?, "call {call}");
     assert_eq!(rt;
-        changes_found(alloc, &mut station)?,
+        changes_found(alloc, station)?,
         Some(changes),
         "call {call}"
     );
@@ -136,11 +132,9 @@ fn each_call_of_the_shelf_that_fails_refuses_its_request_alone(
 
 /// Runs the requests over this source, and answers the station and the status.
 fn run_over<S: Source>(alloc: Global, source: &mut S) -> Result<(MemStation, u8), AllocError> {
-    let words = words_of(alloc, "serve")?;
     let mut shelf = shelf_of(alloc, FILES, &[])?;
-    let mut station = station_of(alloc, &[])?;
-    let status = serve(alloc, &words, source, &mut shelf, &mut station);
-    Ok((station, status))
+    let station = station_of(alloc, &[])?;
+    run_on(alloc, "serve", source, &mut shelf, station)
 }
 
 /// After so many bytes of the requests were taken and the next call failed: the run ended with 4, each request that was taken
@@ -148,7 +142,7 @@ fn run_over<S: Source>(alloc: Global, source: &mut S) -> Result<(MemStation, u8)
 fn expect_ended(
     rt: &impl Abort,
     alloc: Global,
-    mut station: MemStation,
+    station: MemStation,
     status: u8,
     taken: usize,
 ) -> Result<(), Fail> {
@@ -160,7 +154,7 @@ fn expect_ended(
     );
     let changes = acknowledged(station.printed());
     assert!(rt; is_synced(&station)?, "{taken} bytes taken");
-    let found = changes_found(alloc, &mut station)?;
+    let found = changes_found(alloc, station)?;
     assert_eq!(rt; found, Some(changes), "{taken} bytes taken");
     Ok(())
 }

@@ -1,11 +1,10 @@
 //! Runs during which the files in the folder change: each request meets them as they are during it.
-use crate::runs::FILES;
+use crate::runs::{FILES, run_on};
 use crate::worked::{
     A1, ADMIN1, ADMIN2, ALT_DELETES, ALT_MODIFICATIONS, ALTERNATES, B2, COUNTRIES, DELETES, DUMP,
-    File, LINKS, MODIFICATIONS, X2, joined, source_of, station_of, words_of,
+    File, LINKS, MODIFICATIONS, X2, joined, source_of, station_of,
 };
 use gaz_outside::{MemShelf, MemStation};
-use gaz_serve::serve;
 use std::alloc::{AllocError, Global};
 use std::test::Fail;
 
@@ -41,12 +40,10 @@ fn run_over(
     later: Vec<Listed>,
     requests: &[u8],
 ) -> Result<(MemStation, u8), AllocError> {
-    let words = words_of(alloc, "serve")?;
     let mut source = source_of(alloc, requests, &[])?;
     let mut shelf = MemShelf::changing(first, later, Vec::new(alloc))?;
-    let mut station = station_of(alloc, &[])?;
-    let status = serve(alloc, &words, &mut source, &mut shelf, &mut station);
-    Ok((station, status))
+    let station = station_of(alloc, &[])?;
+    run_on(alloc, "serve", &mut source, &mut shelf, station)
 }
 
 /// A day's files come between two requests of one run, one after another.

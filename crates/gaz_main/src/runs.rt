@@ -3,7 +3,8 @@ use crate::worked::{
     A1, ADMIN1, ADMIN2, ALT_DELETES, ALT_MODIFICATIONS, ALTERNATES, B2, C3, COUNTRIES, DELETES,
     DUMP, File, LINKS, MODIFICATIONS, X2, shelf_of, source_of, words_of,
 };
-use gaz_outside::{Area, MemStation};
+use gaz_framed::Framed;
+use gaz_outside::{Area, MemShelf, MemStation, Source};
 use gaz_serve::serve;
 use std::alloc::{AllocError, Global};
 
@@ -34,9 +35,10 @@ pub(crate) const REPLIES: &[u8] =
 
 /// The calls of the station that the run makes. The opening of empty areas makes 7: it syncs five areas, reads the gate and asks for
 /// the length of Root. The load makes 10: its two pages in one write, their sync, and the commit of the root page, which writes
-/// and syncs the log, the gate, the root and the gate. The day makes 14: it reads the leaf and the page of records twice each,
-/// and its commit writes and syncs the two pages also. Each acknowledgement is 1, the get of a place 5, that of none 2.
-pub(crate) const CALLS: u64 = 40;
+/// and syncs the log, the gate, the root and the gate. The day makes 12: it reads the leaf and the page of records, which are held
+/// from then on, and its commit writes and syncs the two pages also, which gives their frames the new bytes. So the gets read
+/// nothing: that of a place prints 3 pieces, that of none 1. Each acknowledgement is 1.
+pub(crate) const CALLS: u64 = 35;
 
 /// Where each request ends, and its reply.
 const ENDS: [(usize, usize); 4] = [(16, 19), (31, 37), (37, 82), (43, 87)];
@@ -66,16 +68,29 @@ pub(crate) fn acknowledged(text: &[u8]) -> u64 {
     }
 }
 
-/// Runs these requests over a new source and a new shelf, and answers the status.
+/// Runs the program with these words over these objects, and gives the station back with the status.
+pub(crate) fn run_on<S: Source>(
+    alloc: Global,
+    line: &str,
+    source: &mut S,
+    shelf: &mut MemShelf,
+    station: MemStation,
+) -> Result<(MemStation, u8), AllocError> {
+    let words = words_of(alloc, line)?;
+    let mut framed = Framed::new(alloc, station)?;
+    let status = serve(alloc, &words, source, shelf, &mut framed);
+    Ok((framed.into_station(), status))
+}
+
+/// Runs these requests over a new source and a new shelf, and gives the station back with the status.
 pub(crate) fn serve_on(
     alloc: Global,
-    station: &mut MemStation,
+    station: MemStation,
     requests: &[u8],
-) -> Result<u8, AllocError> {
-    let words = words_of(alloc, "serve")?;
+) -> Result<(MemStation, u8), AllocError> {
     let mut source = source_of(alloc, requests, &[])?;
     let mut shelf = shelf_of(alloc, FILES, &[])?;
-    Ok(serve(alloc, &words, &mut source, &mut shelf, station))
+    run_on(alloc, "serve", &mut source, &mut shelf, station)
 }
 
 /// Requests that change nothing: the last is refused, and tells the date.
@@ -109,13 +124,10 @@ fn changes_of(text: &[u8]) -> Option<u64> {
 }
 
 /// How many changes a next run finds made, by its answers.
-pub(crate) fn changes_found(
-    alloc: Global,
-    station: &mut MemStation,
-) -> Result<Option<u64>, AllocError> {
+pub(crate) fn changes_found(alloc: Global, station: MemStation) -> Result<Option<u64>, AllocError> {
     let before = station.printed().len();
-    let status = serve_on(alloc, station, QUESTIONS)?;
-    match station.printed().get(before..) {
+    let (after, status) = serve_on(alloc, station, QUESTIONS)?;
+    match after.printed().get(before..) {
         Some(text) if status == 0 => Ok(changes_of(text)),
         _ => Ok(None),
     }
@@ -128,7 +140,7 @@ pub(crate) fn changes_after(
     keep: u64,
     fill: u8,
 ) -> Result<Option<u64>, AllocError> {
-    changes_found(alloc, &mut station.after_stop(keep, fill)?)
+    changes_found(alloc, station.after_stop(keep, fill)?)
 }
 
 /// The changes that were found are those that were acknowledged, or one more.

@@ -45,9 +45,12 @@ pub(crate) fn joined(alloc: Global, pieces: &[&str]) -> Result<Vec<u8>, AllocErr
     Ok(bytes)
 }
 
-/// The words of a command line, between spaces.
+/// The words of a command line, between spaces; an empty one has none.
 pub(crate) fn words_of(alloc: Global, line: &str) -> Result<Vec<String>, AllocError> {
     let mut words = Vec::new(alloc);
+    if line.is_empty() {
+        return Ok(words);
+    }
     for word in line.split(' ') {
         words.push(String::from_str(alloc, word)?)?;
     }

@@ -3,8 +3,8 @@ use crate::device::Device;
 use crate::mirrors::opened;
 use crate::stopped::{Stopped, Wrong, had};
 use crate::worked::ASKED;
+use gaz_framed::Framed;
 use gaz_num::write_date;
-use gaz_outside::Station;
 use gaz_page::{Pages, Root};
 use gaz_pages::{LivePages, Mirror};
 use gaz_rows::RowStore;
@@ -153,8 +153,8 @@ fn tell_all<P: Pages>(
 /// All that a mirror answers: the root's date and counts, the rows with the ids from 1 to this, the lines of `ASKED`, and the links.
 pub fn answers(
     alloc: Global,
-    mirror: &mut Mirror,
-    device: &mut Device,
+    mirror: &Mirror,
+    device: &mut Framed<Device>,
     rows: u32,
 ) -> Result<Vec<u8>, Stopped> {
     let mut out = Vec::new(alloc);
@@ -164,33 +164,20 @@ pub fn answers(
     };
     tell_root(alloc, &root, &mut out)?;
     let mut buf = had(vec![in alloc; 0; LONGEST])?;
-    let pages = LivePages::new(mirror, device, root);
+    let pages = LivePages::new(device, root);
     let mut store = RowStore::over(pages, root);
     tell_all(&mut store, rows, &mut buf, &mut out)?;
     Ok(out)
 }
 
-/// What the root says, and the rows with the ids from 1 to the last, with a dash for each that isn't there.
-pub fn rows_of<T: Station>(
-    alloc: Global,
-    mirror: &mut Mirror,
-    station: &mut T,
-    last: u32,
-) -> Result<Vec<u8>, Stopped> {
-    let Some(root) = mirror.root() else {
-        return Err(Stopped::Wrong(Wrong::Root));
-    };
-    let mut out = Vec::new(alloc);
-    tell_root(alloc, &root, &mut out)?;
-    let mut buf = had(vec![in alloc; 0; LONGEST])?;
-    let pages = LivePages::new(mirror, station, root);
-    let mut store = RowStore::over(pages, root);
-    tell_rows(&mut store, last, &mut buf, &mut out)?;
-    Ok(out)
-}
-
 /// All that the mirror of a device answers, once it is opened.
-pub fn answers_on(alloc: Global, device: &mut Device, rows: u32) -> Result<Vec<u8>, Stopped> {
-    let mut mirror = opened(alloc, device)?;
-    answers(alloc, &mut mirror, device, rows)
+pub fn answers_on(
+    alloc: Global,
+    device: &mut Framed<Device>,
+    rows: u32,
+) -> Result<Vec<u8>, Stopped> {
+    match opened(device) {
+        Ok(mirror) => answers(alloc, &mirror, device, rows),
+        Err(stopped) => Err(stopped),
+    }
 }

@@ -1,14 +1,16 @@
 //! A load or a day, with what a mirror answers before it and after.
 use crate::asking::answers_on;
-use crate::device::Device;
+use crate::device::{Device, framed};
 use crate::mirrors::{Outcome, Request, change, opened};
 use crate::stopped::{Stopped, Wrong, check, had};
 use crate::worked::{
     AFTER, DAY_FILES, DUMP_FILES, FIRST, File, LOADED, NEXT, NOTHING, OTHER, OTHER_FILES, RELOADED,
     ROWS,
 };
+use gaz_framed::Framed;
 use gaz_num::{Day, read_date};
 use gaz_outside::MemShelf;
+use gaz_pages::Mirror;
 use std::alloc::Global;
 
 /// Files with their bytes.
@@ -111,17 +113,29 @@ pub fn must(outcome: Outcome) -> Result<(), Stopped> {
     }
 }
 
-/// Opens the mirror of a device and makes a change that isn't refused.
-pub fn must_make(alloc: Global, device: &mut Device, case: &Change) -> Result<(), Stopped> {
-    let mut mirror = opened(alloc, device)?;
+/// Makes a change that isn't refused.
+fn must_make_on(
+    alloc: Global,
+    mirror: &mut Mirror,
+    device: &mut Framed<Device>,
+    case: &Change,
+) -> Result<(), Stopped> {
     let mut shelf = shelf_of(alloc, &case.files, 0)?;
-    must(change(alloc, &mut mirror, &mut shelf, device, case.request)?)
+    must(change(alloc, mirror, &mut shelf, device, case.request)?)
+}
+
+/// Opens the mirror of a device and makes a change that isn't refused.
+pub fn must_make(alloc: Global, device: &mut Framed<Device>, case: &Change) -> Result<(), Stopped> {
+    match opened(device) {
+        Ok(mut mirror) => must_make_on(alloc, &mut mirror, device, case),
+        Err(stopped) => Err(stopped),
+    }
 }
 
 /// The mirror of a device answers this, once it is opened.
 pub fn must_answer(
     alloc: Global,
-    device: &mut Device,
+    device: &mut Framed<Device>,
     rows: u32,
     wanted: &[u8],
 ) -> Result<(), Stopped> {
@@ -132,8 +146,8 @@ pub fn must_answer(
 /// A device after the first load.
 pub fn loaded(alloc: Global) -> Result<Device, Stopped> {
     let case = first_load(alloc)?;
-    let mut device = Device::new(alloc);
+    let mut device = framed(alloc, Device::new(alloc))?;
     must_make(alloc, &mut device, &case)?;
     must_answer(alloc, &mut device, case.rows, &case.new)?;
-    device.after_stop(0, 255)
+    device.station().after_stop(0, 255)
 }

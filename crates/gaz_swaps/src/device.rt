@@ -4,6 +4,7 @@ ghost use Rattle.gaz_outside.specs.Outside.{RisesOnce};
 ghost use Rattle.gaz_outside.specs.Untold.{untold_station, not_told};
 
 use crate::stopped::{Stopped, had};
+use gaz_framed::Framed;
 use gaz_outside::{Area, Failed, MemStation, Station};
 use std::alloc::Global;
 
@@ -79,6 +80,21 @@ impl Device {
         self.faults = self.faults.saturating_add(1);
         Failed
     }
+}
+
+/// The device with eight frames, all empty.
+pub fn framed(alloc: Global, device: Device) -> Result<Framed<Device>, Stopped> {
+    had(Framed::new(alloc, device))
+}
+
+/// The device that a stop leaves now, as `Device::after_stop`, with eight frames.
+pub fn left_by_stop(
+    alloc: Global,
+    device: &Device,
+    keep: u64,
+    fill: u8,
+) -> Result<Framed<Device>, Stopped> {
+    framed(alloc, device.after_stop(keep, fill)?)
 }
 
 #[tactic(auto, unfolding(gaz_outside::specs::Outside::printed_of))]

@@ -1,28 +1,28 @@
 //! Each call of the station and of the shelf fails in turn.
 use crate::asking::answers;
 use crate::changes::{Change, day_after, day_of, first_load, loaded, must, must_answer, shelf_of};
-use crate::device::Device;
-use crate::mirrors::{change, change_answers, opened};
+use crate::device::{Device, left_by_stop};
+use crate::mirrors::{change, change_answers, opened, opened_bare};
 use crate::stopped::{Stopped, Wrong, check, printed};
-use crate::stops::{Left, MOST_CALLS, STOPS, check_stop, is_made};
+use crate::stops::{Left, MOST_CALLS, STOPS, check_stop, tried};
 use crate::worked::AFTER;
+use gaz_framed::Framed;
 use gaz_num::FileName;
 use gaz_pages::Mirror;
 use gaz_rows::ChangeFault;
 use std::alloc::Global;
 use std::io::Print;
 
-/// Makes the change over the device, of which the call with this number fails, and answers whether it was made.
+/// Makes the change over the device, of which the call with this number fails, and gives the device back with whether it was made.
 fn failed_at(
     alloc: Global,
-    device: &mut Device,
+    device: Device,
     case: &Change,
     call: u64,
-) -> Result<bool, Stopped> {
-    let mut mirror = opened(alloc, device)?;
-    let mut shelf = shelf_of(alloc, &case.files, 0)?;
+) -> Result<(Device, bool), Stopped> {
+    let (mut mirror, mut device) = opened_bare(alloc, device)?;
     device.fail_at(call);
-    is_made(change(alloc, &mut mirror, &mut shelf, device, case.request)?)
+    tried(alloc, &mut mirror, device, case)
 }
 
 /// What such a device has is the old gazetteer or the new one, also after a stop.
@@ -38,8 +38,7 @@ fn check_left(alloc: Global, device: &Device, case: &Change, is_made: bool) -> R
 /// Each call of the station fails in turn.
 fn each_call(alloc: Global, base: &Device, case: &Change) -> Result<(), Stopped> {
     for call in 1..MOST_CALLS {
-        let mut device = base.after_stop(0, 255)?;
-        let is_made = failed_at(alloc, &mut device, case, call)?;
+        let (device, is_made) = failed_at(alloc, base.after_stop(0, 255)?, case, call)?;
         check_left(alloc, &device, case, is_made)?;
         if is_made {
             check(device.is_to_fail(), Wrong::Calls)?;
@@ -68,18 +67,35 @@ pub fn station_of_a_day(rt: &impl Print, alloc: Global) -> Result<(), Stopped> {
 /// A mirror answers this, and so does what a stop leaves of it.
 fn must_hold(
     alloc: Global,
-    mirror: &mut Mirror,
-    device: &mut Device,
+    mirror: &Mirror,
+    device: &mut Framed<Device>,
     case: &Change,
     wanted: &[u8],
 ) -> Result<(), Stopped> {
     let text = answers(alloc, mirror, device, case.rows)?;
     check(text.as_slice() == wanted, Wrong::Answers)?;
-    let mut after = device.after_stop(0, 255)?;
+    let mut after = left_by_stop(alloc, device.station(), 0, 255)?;
     must_answer(alloc, &mut after, case.rows, wanted)
 }
 
 /// The call of the shelf with this number fails, for which this file is to be blamed. The next try succeeds.
+fn shelf_call_on(
+    alloc: Global,
+    mirror: &mut Mirror,
+    device: &mut Framed<Device>,
+    case: &Change,
+    call: u64,
+    name: FileName,
+) -> Result<(), Stopped> {
+    let mut shelf = shelf_of(alloc, &case.files, call)?;
+    let answer = change_answers(alloc, mirror, &mut shelf, device, case.request)?;
+    check(answer == Err(ChangeFault::Shelf(name)), Wrong::Cause)?;
+    must_hold(alloc, mirror, device, case, &case.old)?;
+    must(change(alloc, mirror, &mut shelf, device, case.request)?)?;
+    must_hold(alloc, mirror, device, case, &case.new)
+}
+
+/// The same over a device as this one is.
 fn shelf_call(
     alloc: Global,
     base: &Device,
@@ -87,14 +103,24 @@ fn shelf_call(
     call: u64,
     name: FileName,
 ) -> Result<(), Stopped> {
-    let mut device = base.after_stop(0, 255)?;
-    let mut mirror = opened(alloc, &mut device)?;
+    let mut device = left_by_stop(alloc, base, 0, 255)?;
+    match opened(&mut device) {
+        Ok(mut mirror) => shelf_call_on(alloc, &mut mirror, &mut device, case, call, name),
+        Err(stopped) => Err(stopped),
+    }
+}
+
+/// The call of the shelf with this number would fail, and isn't made: so is the change.
+fn no_shelf_call_on(
+    alloc: Global,
+    mirror: &mut Mirror,
+    device: &mut Framed<Device>,
+    case: &Change,
+    call: u64,
+) -> Result<(), Stopped> {
     let mut shelf = shelf_of(alloc, &case.files, call)?;
-    let answer = change_answers(alloc, &mut mirror, &mut shelf, &mut device, case.request)?;
-    check(answer == Err(ChangeFault::Shelf(name)), Wrong::Cause)?;
-    must_hold(alloc, &mut mirror, &mut device, case, &case.old)?;
-    must(change(alloc, &mut mirror, &mut shelf, &mut device, case.request)?)?;
-    must_hold(alloc, &mut mirror, &mut device, case, &case.new)
+    must(change(alloc, mirror, &mut shelf, device, case.request)?)?;
+    must_hold(alloc, mirror, device, case, &case.new)
 }
 
 /// All files are opened, in order, and then each is read twice, up to its end.
@@ -110,11 +136,19 @@ fn each_shelf_call(
         shelf_call(alloc, base, case, call, *name)?;
     }
     // No call is behind these: the change is made.
-    let mut device = base.after_stop(0, 255)?;
-    let mut mirror = opened(alloc, &mut device)?;
-    let mut shelf = shelf_of(alloc, &case.files, call.saturating_add(1))?;
-    must(change(alloc, &mut mirror, &mut shelf, &mut device, case.request)?)?;
-    must_hold(alloc, &mut mirror, &mut device, case, &case.new)
+    let mut device = left_by_stop(alloc, base, 0, 255)?;
+    match opened(&mut device) {
+        Ok(mut mirror) => {
+            no_shelf_call_on(
+                alloc,
+                &mut mirror,
+                &mut device,
+                case,
+                call.saturating_add(1),
+            )
+        }
+        Err(stopped) => Err(stopped),
+    }
 }
 
 /// Six openings, and two reads of each file, one that gives its bytes and one that gives none, are 18 calls. The device wasn't written but for the

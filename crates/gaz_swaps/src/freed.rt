@@ -1,11 +1,12 @@
 //! A day over a mirror that has free pages.
 use crate::changes::{Change, Files, day_of, must_answer, must_make};
-use crate::device::Device;
+use crate::device::{Device, framed, left_by_stop};
 use crate::made::{dashes, deletes, rows};
 use crate::mirrors::{Request, opened};
 use crate::stopped::{Stopped, Wrong, check, had, printed};
 use crate::stops::each_stop;
 use crate::worked::{ADMIN1, ADMIN2, ALTERNATES, COUNTRIES, DUMP, FIRST, LINKS, NONE_ASKED};
+use gaz_framed::Framed;
 use gaz_page::Root;
 use std::alloc::Global;
 use std::io::Print;
@@ -23,8 +24,8 @@ const LAST: u32 = 220;
 const STOPS: [(u64, u8); 3] = [(0, 255), (1, 1), (2, 0)];
 
 /// The root of a device.
-fn root_of(alloc: Global, device: &mut Device) -> Result<Root, Stopped> {
-    match opened(alloc, device)?.root() {
+fn root_of(device: &mut Framed<Device>) -> Result<Root, Stopped> {
+    match opened(device)?.root() {
         Some(root) => Ok(root),
         None => Err(Stopped::Wrong(Wrong::Root)),
     }
@@ -47,7 +48,7 @@ fn bytes_of(alloc: Global, text: &str) -> Result<Vec<u8>, Stopped> {
 }
 
 /// Loads the first rows.
-fn load(alloc: Global, device: &mut Device) -> Result<(), Stopped> {
+fn load(alloc: Global, device: &mut Framed<Device>) -> Result<(), Stopped> {
     let names = [DUMP, ALTERNATES, LINKS, COUNTRIES, ADMIN1, ADMIN2];
     let text = rows(alloc, 1, ROWS)?;
     let case = Change {
@@ -61,7 +62,7 @@ fn load(alloc: Global, device: &mut Device) -> Result<(), Stopped> {
 }
 
 /// Deletes nearly all of them.
-fn delete(alloc: Global, device: &mut Device) -> Result<(), Stopped> {
+fn delete(alloc: Global, device: &mut Framed<Device>) -> Result<(), Stopped> {
     let names = [
         "modifications-2024-03-02.txt",
         "deletes-2024-03-02.txt",
@@ -118,18 +119,18 @@ fn addition(alloc: Global) -> Result<Change, Stopped> {
 /// 120 rows are loaded, 110 deleted, which frees pages of records and of the tree, and then 100 are new: 10, and then 110. Free pages are taken first,
 /// so where one is left no page was taken that never was before.
 pub fn day_over_free_pages(rt: &impl Print, alloc: Global) -> Result<(), Stopped> {
-    let mut device = Device::new(alloc);
+    let mut device = framed(alloc, Device::new(alloc))?;
     load(alloc, &mut device)?;
     delete(alloc, &mut device)?;
     let case = addition(alloc)?;
     must_answer(alloc, &mut device, LAST, &case.old)?;
-    let before = root_of(alloc, &mut device)?;
+    let before = root_of(&mut device)?;
     check(before.free != 0, Wrong::FreePages)?;
-    let mut base = device.after_stop(0, 255)?;
-    let _left = each_stop(alloc, &base, &case, &STOPS)?;
+    let mut base = left_by_stop(alloc, device.station(), 0, 255)?;
+    let _left = each_stop(alloc, base.station(), &case, &STOPS)?;
     must_make(alloc, &mut base, &case)?;
     must_answer(alloc, &mut base, LAST, &case.new)?;
-    let root = root_of(alloc, &mut base)?;
+    let root = root_of(&mut base)?;
     check(root.free != before.free, Wrong::FreePages)?;
     check(
         root.free == 0 || root.fresh == before.fresh,

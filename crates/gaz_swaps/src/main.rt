@@ -1,7 +1,6 @@
-//! A trial and a benchmark of loads and days of a mirror in pages. No other crate stands on it.
+//! A trial of loads and days of a mirror in pages. No other crate stands on it.
 //! With the word `trial` it stops and fails each call of a load and of a day, over objects in memory, and prints what it found of the mirror
-//! after each; the answers that it expects follow from the lines by hand. With `load DATE` or `day DATE` it opens the mirror of the current
-//! folder and changes it by the files there, and with `rows LAST` it prints the rows of that mirror, for the scripts under bench/.
+//! after each; the answers that it expects follow from the lines by hand.
 //! It promises nothing beside what the calls that it makes promise: what it prints is what was found.
 #![tactic(auto)]
 
@@ -9,7 +8,6 @@ mod asking;
 mod changes;
 mod device;
 mod faults;
-mod folder;
 mod freed;
 mod made;
 mod mirrors;
@@ -19,9 +17,7 @@ mod stopped;
 mod stops;
 mod worked;
 
-use gaz_num::{read_count, read_date};
 use gaz_outside::hold_standard;
-use mirrors::Request;
 use std::io::Print;
 use std::process::ExitCode;
 use std::{env, io};
@@ -32,9 +28,6 @@ const BAD_WORDS: u8 = 2;
 
 /// The status where something isn't as it must be, memory ran out, a file failed, or the text can't be printed.
 const FAILED: u8 = 5;
-
-/// The most rows that it prints.
-const MOST_ROWS: u32 = 10_000_000;
 
 /// The words behind the program's name.
 fn words(rt: &HostRuntime) -> io::Result<Vec<String>> {
@@ -62,20 +55,6 @@ fn trial(rt: &HostRuntime) -> Result<(), Stopped> {
 fn run(rt: &HostRuntime, words: &[String]) -> Result<(), Stopped> {
     match words {
         [word] if word.as_str() == "trial" => trial(rt),
-        [word, last] if word.as_str() == "rows" => match read_count(last.as_bytes(), MOST_ROWS) {
-            Some(last) => folder::rows_here(rt, last),
-            None => Err(Stopped::Words),
-        },
-        [word, date] => {
-            let Some(date) = read_date(date.as_bytes()) else {
-                return Err(Stopped::Words);
-            };
-            match word.as_str() {
-                "load" => folder::change_here(rt, Request::Load(date)),
-                "day" => folder::change_here(rt, Request::Day(date)),
-                _ => Err(Stopped::Words),
-            }
-        }
         _ => Err(Stopped::Words),
     }
 }

@@ -3,8 +3,10 @@ ghost use Rattle.std.specs.Prelude.{◌≡◌, ◌^◌, IsFalse, IfOk, IfSome};
 ghost use Rattle.gaz_lines.specs.Cutter.{line_limit_of, file_limit_of};
 ghost use Rattle.gaz_page.specs.TreeRoot.{FitsRoot};
 
-use crate::stopped::{Stopped, Wrong, had};
+use crate::device::{Device, framed};
+use crate::stopped::{Stopped, Wrong};
 use gaz_day::apply;
+use gaz_framed::PagedStation;
 use gaz_lines::LineCutter;
 use gaz_load::load;
 use gaz_num::Day;
@@ -56,13 +58,20 @@ fn recovered<T: Station>(station: &mut T) -> Result<(), Stopped>
 }
 
 /// Recovers a station, and makes the mirror of its root page.
-pub fn opened<T: Station>(alloc: Global, station: &mut T) -> Result<Mirror, Stopped>
+pub fn opened<T: Station>(station: &mut T) -> Result<Mirror, Stopped>
     requires { IsFalse (T.view station.old).is_told }
     ensures { (T.view station.new).is_told ≡ (T.view station.old).is_told }
 {
     recovered(station)?;
     let root = root_on(station)?;
-    had(Mirror::of(alloc, root))
+    Ok(Mirror::of(root))
+}
+
+/// Opens the mirror of a device, and gives the device back without frames, so that the call that fails can be set.
+pub fn opened_bare(alloc: Global, device: Device) -> Result<(Mirror, Device), Stopped> {
+    let mut framed = framed(alloc, device)?;
+    let mirror = opened(&mut framed)?;
+    Ok((mirror, framed.into_station()))
 }
 
 /// The cutter of a change.
@@ -77,7 +86,7 @@ fn cutter_of(alloc: Global) -> Result<LineCutter, Stopped>
 }
 
 /// What a load answers.
-fn load_answers<F: Shelf, T: Station>(
+fn load_answers<F: Shelf, T: PagedStation>(
     alloc: Global,
     mirror: &mut Mirror,
     shelf: &mut F,
@@ -91,7 +100,7 @@ fn load_answers<F: Shelf, T: Station>(
 }
 
 /// What a day answers.
-fn day_answers<F: Shelf, T: Station>(
+fn day_answers<F: Shelf, T: PagedStation>(
     alloc: Global,
     mirror: &mut Mirror,
     shelf: &mut F,
@@ -105,7 +114,7 @@ fn day_answers<F: Shelf, T: Station>(
 }
 
 /// What the request's call answers.
-pub fn change_answers<F: Shelf, T: Station>(
+pub fn change_answers<F: Shelf, T: PagedStation>(
     alloc: Global,
     mirror: &mut Mirror,
     shelf: &mut F,
@@ -139,7 +148,7 @@ fn outcome_of(answer: Result<Result<(), ChangeFault>, Stopped>) -> Result<Outcom
 }
 
 /// What the request comes to.
-pub fn change<F: Shelf, T: Station>(
+pub fn change<F: Shelf, T: PagedStation>(
     alloc: Global,
     mirror: &mut Mirror,
     shelf: &mut F,

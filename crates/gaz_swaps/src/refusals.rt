@@ -3,13 +3,14 @@ use crate::asking::answers;
 use crate::changes::{
     Change, Files, day_after, day_of, files_of, first_load, loaded, must, must_answer, shelf_of,
 };
-use crate::device::Device;
+use crate::device::{Device, framed, left_by_stop};
 use crate::mirrors::{Request, change, change_answers, opened};
 use crate::stopped::{Stopped, Wrong, check, had, printed};
 use crate::worked::{
     ADMIN1, ADMIN2, AFTER, ALT_DELETES, ALT_MODIFICATIONS, ALTERNATES, COUNTRIES, DELETES, DUMP,
     FIRST, File, LINKS, LOADED, MODIFICATIONS, OTHER,
 };
+use gaz_framed::Framed;
 use gaz_num::{FileName, Reason};
 use gaz_outside::Area;
 use gaz_page::Side;
@@ -85,17 +86,17 @@ fn check_same(device: &Device, before: &Device, mirror: &Mirror) -> Result<(), S
 fn refused(
     alloc: Global,
     mirror: &mut Mirror,
-    device: &mut Device,
+    device: &mut Framed<Device>,
     case: &Change,
     request: Request,
     files: &[(String, Vec<u8>)],
     fault: ChangeFault,
 ) -> Result<(), Stopped> {
-    let before = device.after_stop(0, 255)?;
+    let before = device.station().after_stop(0, 255)?;
     let mut shelf = shelf_of(alloc, files, 0)?;
     let answer = change_answers(alloc, mirror, &mut shelf, device, request)?;
     check(answer == Err(fault), Wrong::Cause)?;
-    check_same(device, &before, mirror)?;
+    check_same(device.station(), &before, mirror)?;
     let text = answers(alloc, mirror, device, case.rows)?;
     check(text.as_slice() == case.old.as_slice(), Wrong::Answers)
 }
@@ -104,12 +105,12 @@ fn refused(
 fn made_at_last(
     alloc: Global,
     mirror: &mut Mirror,
-    device: &mut Device,
+    device: &mut Framed<Device>,
     case: &Change,
 ) -> Result<(), Stopped> {
     let mut shelf = shelf_of(alloc, &case.files, 0)?;
     must(change(alloc, mirror, &mut shelf, device, case.request)?)?;
-    let mut after = device.after_stop(0, 255)?;
+    let mut after = left_by_stop(alloc, device.station(), 0, 255)?;
     must_answer(alloc, &mut after, case.rows, &case.new)
 }
 
@@ -118,8 +119,8 @@ fn made_at_last(
 pub fn loads(rt: &impl Print, alloc: Global) -> Result<(), Stopped> {
     let load = first_load(alloc)?;
     let day = day_after(alloc)?;
-    let mut device = Device::new(alloc);
-    let mut mirror = opened(alloc, &mut device)?;
+    let mut device = framed(alloc, Device::new(alloc))?;
+    let mut mirror = opened(&mut device)?;
     refused_loads(alloc, &mut mirror, &mut device, &load)?;
     made_at_last(alloc, &mut mirror, &mut device, &load)?;
     refused_loads(alloc, &mut mirror, &mut device, &day)?;
@@ -143,7 +144,7 @@ fn long_dump(alloc: Global) -> Result<Files, Stopped> {
 fn refused_loads(
     alloc: Global,
     mirror: &mut Mirror,
-    device: &mut Device,
+    device: &mut Framed<Device>,
     case: &Change,
 ) -> Result<(), Stopped> {
     let load = Request::Load(day_of(OTHER)?);
@@ -158,29 +159,42 @@ fn refused_loads(
     refused(alloc, mirror, device, case, load, &long, length)
 }
 
-/// The day is refused where nothing is loaded.
-fn refused_unloaded(alloc: Global, day: &Change) -> Result<(), Stopped> {
-    let load = first_load(alloc)?;
-    let mut device = Device::new(alloc);
-    let mut mirror = opened(alloc, &mut device)?;
+/// The day is refused where nothing is loaded, and then the load is made.
+fn refused_unloaded_on(
+    alloc: Global,
+    mirror: &mut Mirror,
+    device: &mut Framed<Device>,
+    load: &Change,
+    day: &Change,
+) -> Result<(), Stopped> {
     let not_loaded = ChangeFault::NotLoaded;
     refused(
         alloc,
-        &mut mirror,
-        &mut device,
-        &load,
+        mirror,
+        device,
+        load,
         day.request,
         &day.files,
         not_loaded,
     )?;
-    made_at_last(alloc, &mut mirror, &mut device, &load)
+    made_at_last(alloc, mirror, device, load)
+}
+
+/// The same over a new device.
+fn refused_unloaded(alloc: Global, day: &Change) -> Result<(), Stopped> {
+    let load = first_load(alloc)?;
+    let mut device = framed(alloc, Device::new(alloc))?;
+    match opened(&mut device) {
+        Ok(mut mirror) => refused_unloaded_on(alloc, &mut mirror, &mut device, &load, day),
+        Err(stopped) => Err(stopped),
+    }
 }
 
 /// The day is refused at other dates than that after the load.
 fn refused_dates(
     alloc: Global,
     mirror: &mut Mirror,
-    device: &mut Device,
+    device: &mut Framed<Device>,
     day: &Change,
 ) -> Result<(), Stopped> {
     let sequence = ChangeFault::Sequence(day_of(FIRST)?);
@@ -196,8 +210,8 @@ fn refused_dates(
 pub fn days(rt: &impl Print, alloc: Global) -> Result<(), Stopped> {
     let day = day_after(alloc)?;
     refused_unloaded(alloc, &day)?;
-    let mut device = loaded(alloc)?;
-    let mut mirror = opened(alloc, &mut device)?;
+    let mut device = framed(alloc, loaded(alloc)?)?;
+    let mut mirror = opened(&mut device)?;
     refused_dates(alloc, &mut mirror, &mut device, &day)?;
     let after = day_of(AFTER)?;
     let without = files_of(alloc, WITHOUT_ALT_DELETES)?;

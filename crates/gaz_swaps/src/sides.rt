@@ -1,8 +1,9 @@
 //! Loads one after another: each in the area that isn't in use.
 use crate::changes::{Change, day_after, first_load, must, must_answer, other_load, shelf_of};
-use crate::device::Device;
+use crate::device::{Device, framed, left_by_stop};
 use crate::mirrors::{change, opened};
 use crate::stopped::{Stopped, Wrong, check, printed};
+use gaz_framed::Framed;
 use gaz_page::Side;
 use gaz_pages::Mirror;
 use std::alloc::Global;
@@ -12,7 +13,7 @@ use std::io::Print;
 fn make(
     alloc: Global,
     mirror: &mut Mirror,
-    device: &mut Device,
+    device: &mut Framed<Device>,
     case: &Change,
     side: Side,
 ) -> Result<(), Stopped> {
@@ -23,9 +24,9 @@ fn make(
     };
     check(root.side == side, Wrong::Root)?;
     check(mirror.date() == Some(root.day), Wrong::Root)?;
-    let mut after = device.after_stop(0, 255)?;
+    let mut after = left_by_stop(alloc, device.station(), 0, 255)?;
     must_answer(alloc, &mut after, case.rows, &case.new)?;
-    let found = opened(alloc, &mut after)?;
+    let found = opened(&mut after)?;
     check(found.root() == Some(root), Wrong::Root)
 }
 
@@ -35,15 +36,15 @@ pub fn three_loads(rt: &impl Print, alloc: Global) -> Result<(), Stopped> {
     let first = first_load(alloc)?;
     let day = day_after(alloc)?;
     let other = other_load(alloc)?;
-    let mut device = Device::new(alloc);
-    let mut mirror = opened(alloc, &mut device)?;
+    let mut device = framed(alloc, Device::new(alloc))?;
+    let mut mirror = opened(&mut device)?;
     make(alloc, &mut mirror, &mut device, &first, Side::Left)?;
     make(alloc, &mut mirror, &mut device, &day, Side::Left)?;
     make(alloc, &mut mirror, &mut device, &other, Side::Right)?;
     make(alloc, &mut mirror, &mut device, &first, Side::Left)?;
     make(alloc, &mut mirror, &mut device, &day, Side::Left)?;
     make(alloc, &mut mirror, &mut device, &other, Side::Right)?;
-    check(device.is_fed(), Wrong::Starved)?;
+    check(device.station().is_fed(), Wrong::Starved)?;
     printed(println!(rt;
         "six loads and days by one mirror: each load stands on the side that wasn't in use, a day on the one that was, and an opening finds the same root"
     ))

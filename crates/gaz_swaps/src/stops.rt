@@ -1,9 +1,10 @@
 //! A stop at each call of the station, and what it leaves.
 use crate::asking::answers_on;
 use crate::changes::{Change, day_after, first_load, loaded, other_load, shelf_of};
-use crate::device::Device;
-use crate::mirrors::{Outcome, change, opened};
+use crate::device::{Device, framed, left_by_stop};
+use crate::mirrors::{Outcome, change, opened_bare};
 use crate::stopped::{Stopped, Wrong, check, printed};
+use gaz_pages::Mirror;
 use std::alloc::Global;
 use std::io::Print;
 
@@ -48,7 +49,7 @@ pub fn check_stop(
     (keep, fill): (u64, u8),
     left: &mut Left,
 ) -> Result<(), Stopped> {
-    let mut after = device.after_stop(keep, fill)?;
+    let mut after = left_by_stop(alloc, device, keep, fill)?;
     let text = answers_on(alloc, &mut after, case.rows)?;
     if is_new(&text, case)? {
         left.new = left.new.saturating_add(1);
@@ -56,7 +57,7 @@ pub fn check_stop(
         check(!is_made, Wrong::Lost)?;
         left.old = left.old.saturating_add(1);
     }
-    check(after.is_fed(), Wrong::Starved)
+    check(after.station().is_fed(), Wrong::Starved)
 }
 
 fn check_stops(
@@ -74,7 +75,7 @@ fn check_stops(
 }
 
 /// Whether a change was made. If not, then since a call of the station failed.
-pub fn is_made(outcome: Outcome) -> Result<bool, Stopped> {
+fn is_made(outcome: Outcome) -> Result<bool, Stopped> {
     match outcome {
         Outcome::Made => Ok(true),
         Outcome::Station => Ok(false),
@@ -82,17 +83,29 @@ pub fn is_made(outcome: Outcome) -> Result<bool, Stopped> {
     }
 }
 
-/// Makes the change over the device, which stops after so many calls of it, and answers whether it was made.
+/// Makes the change over the device, whatever becomes of its calls, and gives the device back with whether it was made.
+pub fn tried(
+    alloc: Global,
+    mirror: &mut Mirror,
+    device: Device,
+    case: &Change,
+) -> Result<(Device, bool), Stopped> {
+    let mut shelf = shelf_of(alloc, &case.files, 0)?;
+    let mut framed = framed(alloc, device)?;
+    let made = is_made(change(alloc, mirror, &mut shelf, &mut framed, case.request)?)?;
+    Ok((framed.into_station(), made))
+}
+
+/// Makes the change over the device, which stops after so many calls of it, and gives the device back with whether it was made.
 fn stopped_after(
     alloc: Global,
-    device: &mut Device,
+    device: Device,
     case: &Change,
     calls: u64,
-) -> Result<bool, Stopped> {
-    let mut mirror = opened(alloc, device)?;
-    let mut shelf = shelf_of(alloc, &case.files, 0)?;
+) -> Result<(Device, bool), Stopped> {
+    let (mut mirror, mut device) = opened_bare(alloc, device)?;
     device.stop_after(calls);
-    is_made(change(alloc, &mut mirror, &mut shelf, device, case.request)?)
+    tried(alloc, &mut mirror, device, case)
 }
 
 /// Stops the change at each of its calls, until it is made, and answers how many stops left what.
@@ -104,8 +117,7 @@ pub fn each_stop(
 ) -> Result<Left, Stopped> {
     let mut left = Left { old: 0, new: 0 };
     for calls in 0..MOST_CALLS {
-        let mut device = base.after_stop(0, 255)?;
-        let is_made = stopped_after(alloc, &mut device, case, calls)?;
+        let (device, is_made) = stopped_after(alloc, base.after_stop(0, 255)?, case, calls)?;
         check_stops(alloc, &device, case, is_made, stops, &mut left)?;
         check(device.is_fed(), Wrong::Starved)?;
         if is_made {
