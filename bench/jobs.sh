@@ -82,9 +82,11 @@ one_load() { # WAY: each from nothing
 job_open() {
     for _ in 1 2 3; do
         measure open open.requests "$program" serve
+        measure open_framed open.requests "$program" serve --frames 65536
         measure sqlite3_open open.sql "${sqlite[@]}" places.db
     done
     tell 'open: and one get' gaz_main open 1 each
+    tell '' 'gaz_main, 65,536 frames' open_framed 1 each
     tell '' sqlite3 sqlite3_open 1 each
 }
 
@@ -108,7 +110,7 @@ one_day() { # WAY
     "$1" sqlite3_day "$bench/peers/day.sql" "${sqlite[@]}" places.db
 }
 
-# job_ask KIND WHAT: the questions of this kind, without the opening, which job_open has measured before. sqlite3 is asked at least those that the
+# job_ask KIND WHAT: the questions of this kind, with 64 frames and with 65,536, without the opening, which job_open has measured before. sqlite3 is asked at least those that the
 # product is, so that a time of its own can be told; the answers to those are compared, each row whole.
 job_ask() {
     local kind=$1 what=$2 here there sql=$1.sql how
@@ -123,12 +125,15 @@ job_ask() {
     fi
     for _ in 1 2 3; do
         measure "$kind" "$kind.requests" "$program" serve
+        measure "${kind}_framed" "$kind.requests" "$program" serve --frames 65536
         measure "sqlite3_$kind" "$sql" "${sqlite[@]}" places.db
     done
+    same "$kind" "$kind.out" "${kind}_framed.out"
     sed '/^ok/d' "$kind.out" > rows_here.out
     if [ "$here" = "$there" ]; then cp "sqlite3_$kind.out" rows_there.out; else head -n "$here" "$sql" | "${sqlite[@]}" places.db > rows_there.out; fi
     same "$kind" rows_here.out rows_there.out
     tell "$kind: $(commas "$here") $what" gaz_main "$kind" "$here" each open
+    tell '' 'gaz_main, 65,536 frames' "${kind}_framed" "$here" each open_framed
     tell '' "sqlite3, $how" "sqlite3_$kind" "$there" each sqlite3_open
 }
 

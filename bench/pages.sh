@@ -11,19 +11,18 @@ made_rows "$1"
 made_dump all
 made_day 1200 40 800 60
 cat "$bench/peers/tables.sql" "$bench/peers/indexes.sql" > load.sql
-use_program gaz_swaps trial
 
 one_load_of_pages() { # WAY: each from nothing
     rm -f mirror.* places.db
     settle
-    "$1" load /dev/null "$program" load 2024-03-01
+    "$1" load load.requests "$program" serve
     "$1" sqlite3_load load.sql "${sqlite[@]}" places.db
 }
 
 one_day_of_pages() { # WAY: over what the load left
     cp kept/* .
     settle
-    "$1" day /dev/null "$program" day 2024-03-02
+    "$1" day day.requests "$program" serve
     "$1" sqlite3_day "$bench/peers/day.sql" "${sqlite[@]}" places.db
 }
 
@@ -33,18 +32,18 @@ mkdir kept
 cp mirror.* places.db kept
 for _ in 1 2 3; do one_day_of_pages measure; done
 one_day_of_pages measure_writes
-[ "$(cat load.out day.out)" = $'ok\nok' ] || fail "load and day: $(cat load.out day.out)"
+[ "$(cat load.out day.out)" = $'ok load 2024-03-01\nok day 2024-03-02' ] || fail "load and day: $(cat load.out day.out)"
 
 last=$(sort -n -k 1,1 -t $'\t' allCountries.txt modifications-2024-03-02.txt | tail -n 1 | cut -f 1)
-"$program" rows "$last" | sed -e 1d -e '/^-$/d' > here.out
+seq "$last" | sed 's/^/get /' | "$program" serve | sed '/^ok/d' > here.out
 "${sqlite[@]}" places.db 'SELECT * FROM places ORDER BY id' > there.out
 same 'all rows after the day' here.out there.out
 
 others=$(cat alternateNamesV2.txt hierarchy.txt countryInfo.txt admin?Codes*.txt | wc -l)
-tell "load into pages: $(commas "$rows") rows, $(commas "$others") lines of other tables" gaz_swaps load "$rows" rows
+tell "load into pages: $(commas "$rows") rows, $(commas "$others") lines of other tables" gaz_main load "$rows" rows
 tell '' 'sqlite3, tables and indexes' sqlite3_load "$rows" rows
 lines=$(cat ./*-2024-03-02.txt | wc -l)
-tell "day over pages: $(commas "$lines") lines, opening included" gaz_swaps day "$lines" lines
+tell "day over pages: $(commas "$lines") lines, opening included" gaz_main day "$lines" lines
 tell '' 'sqlite3, one transaction' sqlite3_day "$lines" lines
 show
 stat -c '%n: %s bytes' mirror.* places.db
